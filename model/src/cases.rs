@@ -1,0 +1,318 @@
+//! Call cases: parsing a line, making the call, printing what stands right of the bar.
+
+use crate::device::{possible, protected, Device, REGISTERS};
+use crate::flash::{flash_read, lower_bank, page, reset, step};
+use crate::geometry::{Banks, Geometry, Kind, Side};
+use crate::list::List;
+use crate::sequence::compare;
+use crate::store::{register_read, start_up, store};
+use crate::update::{turn, update_start};
+use crate::Answer;
+
+#[derive(Clone, Copy, Debug, PartialEq, Eq)]
+pub enum Call {
+    Compare,
+    Possible,
+    Protected,
+    Store,
+    RegisterRead,
+    FlashRead,
+    LowerBank,
+    Page,
+    Step,
+    Reset,
+    StartUp,
+    UpdateStart,
+    Turn,
+}
+
+/// The inputs of a call, in the order in which a line gives them.
+pub struct Shape {
+    pub call: Call,
+    pub name: &'static str,
+    pub geometry: bool,
+    pub device: bool,
+    pub lists: usize,
+    pub numbers: usize,
+}
+
+const fn shape(
+    call: Call,
+    name: &'static str,
+    geometry: bool,
+    device: bool,
+    lists: usize,
+    numbers: usize,
+) -> Shape {
+    Shape {
+        call,
+        name,
+        geometry,
+        device,
+        lists,
+        numbers,
+    }
+}
+
+pub const SHAPES: [Shape; 13] = [
+    shape(Call::Compare, "compare", false, false, 0, 2),
+    shape(Call::Possible, "possible", true, true, 0, 0),
+    shape(Call::Protected, "protected", true, true, 0, 3),
+    shape(Call::Store, "store", true, true, 0, 3),
+    shape(Call::RegisterRead, "register_read", true, true, 0, 1),
+    shape(Call::FlashRead, "flash_read", true, true, 2, 1),
+    shape(Call::LowerBank, "lower_bank", true, true, 2, 0),
+    shape(Call::Page, "page", true, false, 1, 1),
+    shape(Call::Step, "step", true, true, 3, 0),
+    shape(Call::Reset, "reset", true, true, 3, 5),
+    shape(Call::StartUp, "startup", true, true, 0, 0),
+    shape(Call::UpdateStart, "update_start", true, true, 3, 0),
+    shape(Call::Turn, "turn", true, true, 4, 1),
+];
+
+impl Call {
+    pub fn shape(self) -> &'static Shape {
+        &SHAPES[self as usize]
+    }
+}
+
+/// One case; inputs that its call does not take stay at their default.
+#[derive(Clone, Debug, PartialEq, Eq)]
+pub struct Case {
+    pub call: Call,
+    pub geometry: [u32; 3],
+    pub device: Device,
+    pub lists: Vec<List>,
+    pub numbers: Vec<u32>,
+}
+
+impl Case {
+    pub fn new(call: Call) -> Case {
+        Case {
+            call,
+            geometry: [0; 3],
+            device: Device::reset_values(),
+            lists: Vec::new(),
+            numbers: Vec::new(),
+        }
+    }
+
+    /// The case of a line; what follows a bar is ignored.
+    pub fn parse(line: &str) -> Option<Case> {
+        let inputs = line.split('|').next()?;
+        let inputs = inputs.strip_suffix(' ').unwrap_or(inputs);
+        let mut parts = inputs.split(' ');
+        let name = parts.next()?;
+        let shape = SHAPES.iter().find(|shape| shape.name == name)?;
+        let numbers: Option<Vec<u32>> = parts.map(parse_number).collect();
+        let mut numbers = numbers?.into_iter();
+        let case = Case::take(shape, &mut numbers)?;
+        match numbers.next() {
+            None => Some(case),
+            Some(_) => None,
+        }
+    }
+
+    fn take(shape: &Shape, numbers: &mut impl Iterator<Item = u32>) -> Option<Case> {
+        let mut case = Case::new(shape.call);
+        if shape.geometry {
+            case.geometry = [numbers.next()?, numbers.next()?, numbers.next()?];
+        }
+        if shape.device {
+            case.device = take_device(numbers)?;
+        }
+        for _ in 0..shape.lists {
+            case.lists.push(List::take(numbers)?);
+        }
+        for _ in 0..shape.numbers {
+            case.numbers.push(numbers.next()?);
+        }
+        Some(case)
+    }
+
+    /// What stands left of the bar.
+    pub fn inputs(&self) -> String {
+        let shape = self.call.shape();
+        let mut numbers = Vec::new();
+        if shape.geometry {
+            numbers.extend(self.geometry);
+        }
+        if shape.device {
+            put_device(&self.device, &mut numbers);
+        }
+        for list in &self.lists {
+            list.put(&mut numbers);
+        }
+        numbers.extend(&self.numbers);
+        let mut text = String::from(shape.name);
+        for number in numbers {
+            text.push(' ');
+            text.push_str(&number.to_string());
+        }
+        text
+    }
+
+    /// What stands right of the bar; none where the call takes no such inputs.
+    pub fn answer(&self) -> Option<String> {
+        let numbers = match self.call {
+            Call::Compare => vec![compare(self.numbers[0], self.numbers[1]).number()],
+            Call::Possible => {
+                let geometry = Geometry::new(self.geometry).ok()?;
+                vec![u32::from(possible(&geometry, &self.device))]
+            }
+            Call::Protected => vec![u32::from(self.answer_protected()?)],
+            _ => match self.answer_call() {
+                Ok(mut outputs) => {
+                    outputs.insert(0, 0);
+                    outputs
+                }
+                Err(refusal) => vec![refusal.number()],
+            },
+        };
+        Some(join(&numbers))
+    }
+
+    fn answer_protected(&self) -> Option<bool> {
+        let geometry = Geometry::new(self.geometry).ok()?;
+        let kind = [Kind::Boot, Kind::Program].get(self.numbers[0] as usize)?;
+        let side = [Side::Lower, Side::Upper].get(self.numbers[1] as usize)?;
+        let page = self.numbers[2];
+        if page >= geometry.window_bytes(*kind) / geometry.page_bytes() {
+            return None;
+        }
+        Some(protected(&geometry, &self.device, *kind, *side, page))
+    }
+
+    fn answer_call(&self) -> Answer<Vec<u32>> {
+        let (geometry, device, numbers) = (self.geometry, self.device, &self.numbers);
+        match self.call {
+            Call::Store => {
+                let (after, event) = store(geometry, device, numbers[0], numbers[1], numbers[2])?;
+                Ok(device_outputs(&after, &[u32::from(event)]))
+            }
+            Call::RegisterRead => {
+                let (value, after) = register_read(geometry, device, numbers[0])?;
+                let mut outputs = vec![value];
+                put_device(&after, &mut outputs);
+                Ok(outputs)
+            }
+            Call::StartUp => Ok(device_outputs(&start_up(geometry, device)?, &[])),
+            Call::Page => self.answer_page(),
+            _ => self.answer_with_banks(),
+        }
+    }
+
+    /// The first word's index and the length of the part handed back.
+    fn answer_page(&self) -> Answer<Vec<u32>> {
+        let bank = self.lists[0].words();
+        let part = page(self.geometry, &bank, self.numbers[0])?;
+        let bytes = part.as_ptr() as usize - bank.as_ptr() as usize;
+        Ok(vec![(bytes / 4) as u32, part.len() as u32])
+    }
+
+    fn answer_with_banks(&self) -> Answer<Vec<u32>> {
+        let before = [self.lists[0].words(), self.lists[1].words()];
+        let [mut one, mut two] = before.clone();
+        let mut banks = Banks {
+            one: &mut one,
+            two: &mut two,
+        };
+        let mut outputs = self.call_with_banks(&mut banks)?;
+        if matches!(self.call, Call::Step | Call::Reset | Call::Turn) {
+            outputs.extend(changes(&before, &[one, two]));
+        }
+        Ok(outputs)
+    }
+
+    fn call_with_banks(&self, banks: &mut Banks) -> Answer<Vec<u32>> {
+        let (geometry, device, numbers) = (self.geometry, self.device, &self.numbers);
+        let third = self.lists.get(2).map_or(Vec::new(), List::words);
+        match self.call {
+            Call::FlashRead => Ok(vec![flash_read(geometry, &device, banks, numbers[0])?]),
+            Call::LowerBank => {
+                let lower = lower_bank(geometry, &device, banks)?;
+                let first = lower.as_ptr() == banks.one.as_ptr();
+                Ok(vec![if first { 1 } else { 2 }])
+            }
+            Call::Step => {
+                let (after, event) = step(geometry, device, banks, &third)?;
+                Ok(device_outputs(&after, &[u32::from(event)]))
+            }
+            Call::Reset => {
+                let mask = [numbers[1], numbers[2], numbers[3], numbers[4]];
+                let after = reset(geometry, device, banks, &third, numbers[0], mask)?;
+                Ok(device_outputs(&after, &[]))
+            }
+            Call::UpdateStart => {
+                let (place, total) = update_start(geometry, &device, banks, &third)?;
+                Ok(vec![place, total])
+            }
+            _ => {
+                let sram = self.lists[3].words();
+                let after = turn(geometry, device, banks, &third, &sram, numbers[0])?;
+                let mut outputs = vec![u32::from(after.done)];
+                put_device(&after.device, &mut outputs);
+                outputs.extend([after.place, u32::from(after.event)]);
+                Ok(outputs)
+            }
+        }
+    }
+}
+
+/// The right side for a line, `?` where it is no case.
+pub fn answer_line(line: &str) -> String {
+    let answer = Case::parse(line).and_then(|case| case.answer());
+    answer.unwrap_or_else(|| String::from("?"))
+}
+
+fn parse_number(part: &str) -> Option<u32> {
+    if part.is_empty() || !part.bytes().all(|byte| byte.is_ascii_digit()) {
+        return None;
+    }
+    part.parse().ok()
+}
+
+fn take_device(numbers: &mut impl Iterator<Item = u32>) -> Option<Device> {
+    let mut registers = [0; REGISTERS];
+    for register in &mut registers {
+        *register = numbers.next()?;
+    }
+    let key_step = numbers.next()?;
+    let step_number = numbers.next()?;
+    Some(Device {
+        registers,
+        key_step,
+        step_number,
+    })
+}
+
+fn put_device(device: &Device, numbers: &mut Vec<u32>) {
+    numbers.extend(device.registers);
+    numbers.extend([device.key_step, device.step_number]);
+}
+
+fn device_outputs(device: &Device, rest: &[u32]) -> Vec<u32> {
+    let mut outputs = Vec::new();
+    put_device(device, &mut outputs);
+    outputs.extend(rest);
+    outputs
+}
+
+/// The count of changed words, then bank, index and new word of each.
+fn changes(before: &[Vec<u32>; 2], after: &[Vec<u32>; 2]) -> Vec<u32> {
+    let mut outputs = vec![0];
+    for (bank, words) in after.iter().enumerate() {
+        for (index, word) in words.iter().enumerate() {
+            if before[bank][index] != *word {
+                outputs[0] += 1;
+                outputs.extend([bank as u32 + 1, index as u32, *word]);
+            }
+        }
+    }
+    outputs
+}
+
+fn join(numbers: &[u32]) -> String {
+    let parts: Vec<String> = numbers.iter().map(u32::to_string).collect();
+    parts.join(" ")
+}

@@ -1,0 +1,44 @@
+//! Reference model of the Live Update flash controller and its bank updater.
+//!
+//! Every rule is written in the most direct form of the paper's sentence.
+
+pub mod cases;
+pub mod device;
+pub mod flash;
+pub mod generate;
+pub mod geometry;
+pub mod list;
+pub mod operation;
+pub mod random;
+pub mod script;
+pub mod sequence;
+pub mod store;
+pub mod update;
+
+/// Why a call is declined, with the paper's numbers.
+#[derive(Clone, Copy, Debug, PartialEq, Eq)]
+pub enum Refusal {
+    Geometry = 1,
+    Length = 2,
+    Device = 3,
+    Register = 4,
+    Running = 5,
+    NotRunning = 6,
+    ResetKind = 7,
+    Address = 8,
+    TargetBank = 9,
+    Sequence = 10,
+    LastSequence = 11,
+    Protection = 12,
+    Place = 13,
+    Script = 14,
+}
+
+impl Refusal {
+    pub fn number(self) -> u32 {
+        self as u32
+    }
+}
+
+/// What a call gives, or the lowest number that applies.
+pub type Answer<T> = Result<T, Refusal>;

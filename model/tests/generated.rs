@@ -1,0 +1,79 @@
+//! Generated cases and scripts.
+
+use std::collections::{BTreeMap, BTreeSet};
+
+use model::cases::{answer_line, Call, Case, SHAPES};
+use model::generate::{line, script, Cases, MOST_WORDS};
+use model::script::{play, records};
+
+/// The declines of each call.
+fn declines(call: Call) -> &'static [u32] {
+    match call {
+        Call::Compare | Call::Possible | Call::Protected => &[],
+        Call::Store => &[1, 3, 4, 5],
+        Call::RegisterRead => &[1, 3, 4],
+        Call::FlashRead => &[1, 2, 3, 8, 9],
+        Call::LowerBank => &[1, 2, 3],
+        Call::Page => &[1, 2, 8],
+        Call::Step => &[1, 2, 3, 6],
+        Call::Reset => &[1, 2, 3, 7],
+        Call::StartUp => &[1, 3, 5],
+        Call::UpdateStart => &[1, 2, 3, 5, 10, 11, 12],
+        Call::Turn => &[1, 2, 3, 5, 6, 13],
+    }
+}
+
+fn first_number(answer: &str) -> u32 {
+    answer.split(' ').next().unwrap().parse().unwrap()
+}
+
+#[test]
+fn generated_cases_come_back() {
+    for (seed, most, count) in [
+        (1, 512, 4000),
+        (2, 64, 500),
+        (3, 4096, 300),
+        (4, MOST_WORDS, 60),
+    ] {
+        for case in Cases::new(seed, most).take(count) {
+            let line = line(&case).expect("a case of a known call");
+            let (_, answer) = line.split_once(" | ").unwrap();
+            assert_eq!(Case::parse(&line).as_ref(), Some(&case));
+            assert_eq!(answer_line(&line), answer);
+        }
+    }
+}
+
+#[test]
+fn every_decline_occurs() {
+    let mut seen: BTreeMap<&str, BTreeSet<u32>> = BTreeMap::new();
+    for case in Cases::new(1, 512).take(8000) {
+        let answer = case.answer().unwrap();
+        seen.entry(case.call.shape().name)
+            .or_default()
+            .insert(first_number(&answer));
+    }
+    for shape in &SHAPES {
+        let numbers = &seen[shape.name];
+        let mut expected: BTreeSet<u32> = declines(shape.call).iter().copied().collect();
+        match shape.call {
+            Call::Compare => expected.extend([1, 2]),
+            Call::Possible | Call::Protected => expected.extend([0, 1]),
+            _ => expected.extend([0]),
+        }
+        assert_eq!(*numbers, expected, "{}", shape.name);
+    }
+}
+
+#[test]
+fn generated_scripts() {
+    let mut refused = 0;
+    for seed in 0..200 {
+        let printed = play(&script(seed, false));
+        refused += u32::from(printed == "14\n");
+        let damaged = script(seed, true);
+        assert!(records(&damaged).is_err(), "seed {seed}");
+        assert_eq!(play(&damaged), "14\n");
+    }
+    assert!((5..60).contains(&refused));
+}

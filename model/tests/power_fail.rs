@@ -1,0 +1,259 @@
+//! Power-fail safety: an update cut after any number of turns.
+
+use model::device::{Device, BFSWAP, NVMCON, PFSWAP};
+use model::flash::reset;
+use model::generate::{accepted_start, random_image};
+use model::geometry::{Bank, Banks, Geometry, ALL_ONES};
+use model::random::Random;
+use model::sequence::{low_half, new_quad, word_of};
+use model::store::start_up;
+use model::update::{turn, update_start};
+
+/// A sign at the start of an update, and what must come of it.
+struct Sign {
+    numbers: [u32; 3],
+    old: Bank,
+    device: Device,
+    banks: [Vec<u32>; 2],
+    image: Vec<u32>,
+    new: Vec<u32>,
+}
+
+#[derive(Clone)]
+struct State {
+    device: Device,
+    banks: [Vec<u32>; 2],
+    place: u32,
+}
+
+fn words(banks: &[Vec<u32>; 2], bank: Bank) -> &[u32] {
+    &banks[bank.number() as usize - 1]
+}
+
+impl Sign {
+    /// A fresh sign: the old bank holds T = `low`, the other bank a given sequence word.
+    fn new(numbers: [u32; 3], old: Bank, low: u16, other: u32) -> Sign {
+        let geometry = Geometry::new(numbers).unwrap();
+        let index = geometry.sequence_index();
+        let mut banks = [random_image(&geometry, 5), random_image(&geometry, 6)];
+        let old_number = old.number() as usize - 1;
+        banks[old_number][index] = word_of(low);
+        banks[1 - old_number][index] = other;
+        let mut state = State {
+            device: Device::reset_values(),
+            banks,
+            place: 0,
+        };
+        restart(numbers, &mut state, 0, [0; 4]);
+        assert_eq!(running_bank(&state.device), Some(old));
+        let image = random_image(&geometry, 7);
+        Sign::from_start(&geometry, state.device, state.banks, image)
+    }
+
+    fn from_start(
+        geometry: &Geometry,
+        device: Device,
+        banks: [Vec<u32>; 2],
+        image: Vec<u32>,
+    ) -> Sign {
+        let old = running_bank(&device).expect("both swaps agree");
+        let index = geometry.sequence_index();
+        let low = low_half(words(&banks, old)[index]);
+        let mut new = image.clone();
+        new[index..index + 4].copy_from_slice(&new_quad(low));
+        Sign {
+            numbers: geometry.numbers(),
+            old,
+            device,
+            banks,
+            image,
+            new,
+        }
+    }
+
+    fn start(&self) -> State {
+        State {
+            device: self.device,
+            banks: self.banks.clone(),
+            place: 0,
+        }
+    }
+
+    fn accepts(&self, state: &mut State) -> u32 {
+        let [one, two] = &mut state.banks;
+        let banks = Banks { one, two };
+        let (place, total) =
+            update_start(self.numbers, &state.device, &banks, &self.image).unwrap();
+        assert_eq!(place, 0);
+        state.place = 0;
+        total
+    }
+
+    /// Turns until a place, or until done.
+    fn run(&self, state: &mut State, last: u32) {
+        let [one, two] = &mut state.banks;
+        let mut banks = Banks { one, two };
+        while state.place < last {
+            let (device, place) = (state.device, state.place);
+            let after = turn(self.numbers, device, &mut banks, &self.image, &[], place).unwrap();
+            assert!(!after.done);
+            assert_eq!(after.place, place + 1);
+            (state.device, state.place) = (after.device, after.place);
+        }
+    }
+
+    /// Runs to the end, says done, and after a restart runs the new bank.
+    fn finish(&self, state: &mut State) {
+        let total = self.accepts(state);
+        self.run(state, total);
+        let [one, two] = &mut state.banks;
+        let mut banks = Banks { one, two };
+        let device = state.device;
+        let after = turn(self.numbers, device, &mut banks, &self.image, &[], total).unwrap();
+        assert!(after.done && after.device == device && after.place == total && !after.event);
+        restart(self.numbers, state, 0, [0; 4]);
+        assert_eq!(running_bank(&state.device), Some(self.old.other()));
+        self.check_new(state);
+    }
+
+    fn check_new(&self, state: &State) {
+        assert_eq!(words(&state.banks, self.old), words(&self.banks, self.old));
+        assert_eq!(words(&state.banks, self.old.other()), &self.new[..]);
+    }
+
+    /// One cut of a state, and everything that is claimed of it; true where it runs new.
+    fn check_cut(&self, reached: &State, kind: u32, mask: [u32; 4]) -> bool {
+        let mut state = reached.clone();
+        restart(self.numbers, &mut state, kind, mask);
+        assert_eq!(words(&state.banks, self.old), words(&self.banks, self.old));
+        let runs = running_bank(&state.device).expect("both swaps agree");
+        if runs == self.old {
+            self.finish(&mut state);
+            return false;
+        }
+        self.check_new(&state);
+        true
+    }
+}
+
+fn restart(numbers: [u32; 3], state: &mut State, kind: u32, mask: [u32; 4]) {
+    let [one, two] = &mut state.banks;
+    let mut banks = Banks { one, two };
+    let device = reset(numbers, state.device, &mut banks, &[], kind, mask).unwrap();
+    state.device = start_up(numbers, device).unwrap();
+}
+
+/// The bank that BFSWAP and PFSWAP both put lower.
+fn running_bank(device: &Device) -> Option<Bank> {
+    match device.registers[NVMCON] & (BFSWAP | PFSWAP) {
+        0 => Some(Bank::One),
+        swaps if swaps == BFSWAP | PFSWAP => Some(Bank::Two),
+        _ => None,
+    }
+}
+
+fn masks(random: &mut Random) -> Vec<[u32; 4]> {
+    let any = |random: &mut Random| [random.word(), random.word(), random.word(), random.word()];
+    let mut first = any(random);
+    first[0] = ALL_ONES;
+    let mut half = [ALL_ONES; 4];
+    half[0] = 0x0000_FFFF;
+    vec![
+        [0; 4],
+        [ALL_ONES; 4],
+        any(random),
+        random.mask(),
+        first,
+        half,
+    ]
+}
+
+/// Cuts after every `stride`-th number of turns; counts the cuts that run new.
+fn check_cuts(sign: &Sign, stride: u32) -> u32 {
+    let mut random = Random::new(8);
+    let mut state = sign.start();
+    let total = sign.accepts(&mut state);
+    let mut runs_new = 0;
+    let mut place = 0;
+    while place <= total {
+        sign.run(&mut state, place);
+        for kind in 0..3 {
+            for mask in masks(&mut random) {
+                runs_new += u32::from(sign.check_cut(&state, kind, mask));
+            }
+        }
+        place += stride;
+    }
+    runs_new
+}
+
+#[test]
+fn every_cut_of_the_smallest_sign() {
+    let others = [ALL_ONES, word_of(0), word_of(6), 0xFFFF_0001, 0x8000_8000];
+    for old in [Bank::One, Bank::Two] {
+        for other in others {
+            let sign = Sign::new([1, 1, 1], old, 7, other);
+            sign.finish(&mut sign.start());
+            assert!(check_cuts(&sign, 1) > 0);
+        }
+    }
+}
+
+#[test]
+fn every_cut_with_equal_or_highest_sequence() {
+    let equal = Sign::new([1, 1, 1], Bank::One, 7, word_of(7));
+    assert!(check_cuts(&equal, 1) > 0);
+    for old in [Bank::One, Bank::Two] {
+        let highest = Sign::new([1, 1, 1], old, 65_534, word_of(65_533));
+        assert!(check_cuts(&highest, 1) > 0);
+    }
+}
+
+#[test]
+fn some_cuts_of_a_larger_sign() {
+    for old in [Bank::One, Bank::Two] {
+        let sign = Sign::new([2, 2, 2], old, 300, word_of(299));
+        sign.finish(&mut sign.start());
+        check_cuts(&sign, 7);
+    }
+}
+
+#[test]
+fn cuts_of_an_update_that_follows_a_cut() {
+    let sign = Sign::new([1, 1, 1], Bank::Two, 9, word_of(8));
+    let mut random = Random::new(9);
+    for first in (0..252).step_by(11) {
+        let mut state = sign.start();
+        sign.run(&mut state, first);
+        restart(sign.numbers, &mut state, random.below(3), random.mask());
+        if running_bank(&state.device) != Some(sign.old) {
+            continue;
+        }
+        sign.accepts(&mut state);
+        for second in (0..252).step_by(5) {
+            sign.run(&mut state, second);
+            sign.check_cut(&state, random.below(3), random.mask());
+        }
+    }
+}
+
+#[test]
+fn cuts_of_any_accepted_start() {
+    let mut random = Random::new(11);
+    for number in 0..200 {
+        let numbers = [[1, 1, 1], [1, 2, 1], [1, 1, 2], [2, 1, 1]][number % 4];
+        let geometry = Geometry::new(numbers).unwrap();
+        let start = accepted_start(&mut random, &geometry);
+        let sign = Sign::from_start(&geometry, start.device, start.banks, start.image);
+        let mut state = sign.start();
+        let total = sign.accepts(&mut state);
+        sign.finish(&mut sign.start());
+        for part in 1..=12 {
+            sign.run(&mut state, total * part / 12 - random.below(total / 12));
+            let kind = random.below(3);
+            for mask in masks(&mut random) {
+                sign.check_cut(&state, kind, mask);
+            }
+        }
+    }
+}
