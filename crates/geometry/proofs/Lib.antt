@@ -1,0 +1,4 @@
+pub mod SizeLaws
+pub mod WindowLaws
+pub mod SequenceLaws
+pub mod Bench

@@ -1,0 +1,14 @@
+-- What is rounded down is at most what it was.
+use native.Mathlib.Nat.{div-add-mod'}
+use native.Mathlib.Omega.{arith}
+use borrow.Author.Needs.{needs}
+use Rattle.geometry.proofs.banks.round_down.Statement.{statement}
+use Rattle.geometry.proofs.banks.round_down.Tie as tie
+
+pub round-down-spec : {M : Type 1} → statement M
+round-down-spec =
+    tie.close
+    (tie.spec
+    (λ c. search needs)
+    (λ c. omega (arith, div-add-mod' (c .args .address) (c .args .unit)))
+    (λ c. search needs))

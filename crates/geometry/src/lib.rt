@@ -1,0 +1,5 @@
+// Banks and map: why a call is declined, sizes, the four windows, the sequence word.
+pub mod banks;
+pub mod decline;
+pub mod sequence;
+pub mod windows;
