@@ -1,3 +1,4 @@
+pub mod DeclineLaws
 pub mod SizeLaws
 pub mod WindowLaws
 pub mod SequenceLaws

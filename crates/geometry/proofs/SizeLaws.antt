@@ -8,13 +8,9 @@ use native.Mathlib.Nat.{mul-le-mul, mul-comm, suc-mul, le-refl, mul-div-cancel, 
 use native.Mathlib.Omega.{arith}
 use lib.Dec.{eqb, leb}
 use borrow.Author.Tests.{leb-true, eqb-true}
+use Rattle.words.proofs.PickLaws.{and-both}
 use Rattle.geometry.specs.declared.banks.Geometry.{Geometry}
 use Rattle.geometry.specs.Banks.{oneOf, rowSizes, listedOf, mostBootPages, mostProgramPages, inRangeOf, InRange, pagesOf, rowBytesOf, pageBytesOf, pageWordsOf, bankWordsOf, roundDownOf}
-
--- both parts of a test hold
-pub and-both : (a b : Bool) → (a && b) ≡ true → (a ≡ true) × (b ≡ true)
-and-both true b h = (refl, h)
-and-both false b h = let z : _≡_ {A = ℕ} 0 1 = cc in absurd (omega arith)
 
 -- a test that holds of each number of a list holds of any number that is one of them
 all : (ℕ → Bool) → List ℕ → Bool

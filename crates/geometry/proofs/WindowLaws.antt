@@ -9,11 +9,12 @@ use native.Mathlib.Omega.{arith}
 use lib.Dec.{leb, ltb}
 use borrow.Author.Tests.{le-leb, lt-leb, le-ltb, lt-ltb, leb-true, ltb-true}
 use Rattle.words.specs.Word.{pick}
+use Rattle.words.proofs.PickLaws.{and-both}
 use Rattle.geometry.specs.declared.banks.Geometry.{Geometry}
 use Rattle.geometry.specs.declared.windows.Location.{Location}
 use Rattle.geometry.specs.Banks.{InRange, pageBytesOf, bootWordsOf, bootQuadsOf, bankWordsOf, roundDownOf}
 use Rattle.geometry.specs.Windows.{lowerBoot, upperBoot, lowerProgram, windowStartOf, windowBytesOf, located, nowhere, inWindowOf, orElse, locateOf, pageOf, wordIndexOf, quadIndexOf}
-use Rattle.geometry.proofs.SizeLaws.{and-both, Unit, page-pos}
+use Rattle.geometry.proofs.SizeLaws.{Unit, page-pos}
 
 -- an address and where it stands belong together
 pub record Stands (g : Geometry) (a : ℕ) (l : Location) : Type 0 where

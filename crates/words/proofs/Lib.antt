@@ -1,2 +1,3 @@
+pub mod PickLaws
 pub mod BitLaws
 pub mod QuadLaws

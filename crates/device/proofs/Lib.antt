@@ -1,0 +1,4 @@
+pub mod OperationLaws
+pub mod FieldLaws
+pub mod AcceptedLaws
+pub mod StartUpLaws

@@ -1,0 +1,81 @@
+-- The target of an operation lies in its window; a region has a protected page exactly where its first page is protected.
+-- Assumes nothing.
+use mathlib.Core.Path.{_≡_, refl, sym, ap, _∙_}
+use mathlib.Core.Bool.{Bool, true, false, not, _&&_, _||_}
+use Prim.Native.Nat.{ℕ, zero, suc, _+_, _-_, _*_, _≤_, _<_}
+use native.Mathlib.Nat.{mul-le-mul}
+use native.Mathlib.Omega.{arith}
+use lib.Dec.{eqb, leb}
+use borrow.Author.Tests.{le-leb, leb-true}
+use Rattle.words.specs.Word.{pick}
+use Rattle.words.proofs.PickLaws.{pick-both, and-both}
+use Rattle.geometry.specs.declared.banks.Geometry.{Geometry}
+use Rattle.geometry.specs.declared.windows.Location.{Location}
+use Rattle.geometry.specs.Banks.{InRange, roundDownOf}
+use Rattle.geometry.specs.Windows.{windowBytesOf, pageOf}
+use Rattle.geometry.proofs.WindowLaws.{stands, page-below}
+use Rattle.device.specs.declared.record.Device.{Device}
+use Rattle.device.specs.Record.{opOf}
+use Rattle.device.specs.Protection.{pwpOf, programProtectedOf, pageOffsetOf, protectedOf, anyProtectedOf}
+use Rattle.device.specs.Operation.{unitOf, targetOf, regionBeginsOf, lengthOf}
+
+module _ (g : Geometry) (ok : InRange g) where
+  pub unit-pos : (op : ℕ) → 0 < unitOf g op
+  unfolding unitOf
+  unit-pos op =
+      pick-both (λ (n : ℕ). 0 < n) (eqb op 2) (omega arith)
+      (pick-both (λ (n : ℕ). 0 < n) (eqb op 3) (omega (arith, ok .q-low)) (omega (arith, ok .q-low)))
+
+  pub length-pos : (op : ℕ) → 0 < lengthOf g op
+  unfolding lengthOf
+  length-pos op =
+      pos (eqb op 2) (omega arith)
+      (pos (eqb op 3) (ok .q-low)
+      (pos (eqb op 4) (omega (arith, ok .q-low))
+      (pos (eqb op 7) (omega (arith, area)) (omega (arith, area)))))
+    where
+      pos : (t : Bool) {x y : ℕ} → 0 < x → 0 < y → 0 < pick t x y
+      pos = pick-both (λ (n : ℕ). 0 < n)
+
+      area : 1 ≤ g .q * g .p
+      area = mul-le-mul (ok .q-low) (ok .p-low)
+
+  module _ (d : Device) (l : Location) (e : l ≡ targetOf g d) (inside : l .inside ≡ true) where
+    pub target-room : l .offset < windowBytesOf g (l .program)
+    unfolding targetOf
+    target-room = rw e (stands g ok (roundDownOf (d .nvmaddr) (unitOf g (opOf d))) (rw e at inside) .room)
+
+    pub target-page : l .program ≡ true → pageOf g l < g .p
+    target-page p = rw p at (page-below g ok l target-room)
+
+  -- a page at a lower offset is protected too
+  lower-protected : (d : Device) (x y : ℕ) → x ≤ y → programProtectedOf d y ≡ true → programProtectedOf d x ≡ true
+  unfolding programProtectedOf
+  lower-protected d x y h e =
+      let s = and-both (not (eqb (pwpOf d) 0)) (leb y (pwpOf d)) e in
+      let k : y ≤ pwpOf d = leb-true _ _ (s .1) in
+      rw (s .0, le-leb x (pwpOf d) (omega arith))
+
+  offset-low : (upper : Bool) (n : ℕ) → pageOffsetOf g upper 0 ≤ pageOffsetOf g upper n
+  offset-low true n = omega arith
+  offset-low false n = omega arith
+
+  first-protected : (d : Device) (upper : Bool) (n : ℕ)
+      → anyProtectedOf g d upper (suc n) ≡ programProtectedOf d (pageOffsetOf g upper 0)
+  unfolding anyProtectedOf
+  first-protected d upper zero = refl
+  first-protected d upper (suc n) =
+      rw (first-protected d upper n)
+      (absorb (programProtectedOf d (pageOffsetOf g upper 0)) (programProtectedOf d (pageOffsetOf g upper (suc n)))
+      (lower-protected d (pageOffsetOf g upper 0) (pageOffsetOf g upper (suc n)) (offset-low upper (suc n))))
+    where
+      absorb : (a b : Bool) → (b ≡ true → a ≡ true) → (a || b) ≡ a
+      absorb true b h = refl
+      absorb false true h = sym (h refl)
+      absorb false false h = refl
+
+  pub region-first : (d : Device) (upper : Bool) → regionBeginsOf g d upper ≡ not (protectedOf g d true upper 0)
+  unfolding regionBeginsOf protectedOf
+  region-first d upper =
+      let e : g .p ≡ suc (g .p - 1) = omega (arith, ok .p-low) in
+      ap (λ (n : ℕ). not (anyProtectedOf g d upper n)) e ∙ ap not (first-protected d upper (g .p - 1))

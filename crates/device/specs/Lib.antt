@@ -1,0 +1,9 @@
+pub mod Registers
+pub mod Record
+pub mod Protection
+pub mod Operation
+pub mod Possible
+pub mod Fields
+pub mod Launch
+pub mod Store
+pub mod StartUp

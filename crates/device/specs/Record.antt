@@ -1,0 +1,78 @@
+-- "The device record holds eleven registers, the key step (0 to 3) and the step number". Assumes nothing.
+use Prim.Native.Nat.{ℕ, _%_}
+use mathlib.Core.Bool.{Bool}
+use mathlib.Core.List.{List, [], _∷_}
+use lib.Dec.{eqb}
+use lib.ListN.{getD}
+use Rattle.words.specs.Word.{pick, hasOf}
+use Rattle.words.specs.Quad.{wordAt}
+use Rattle.device.specs.declared.record.Device.{Device}
+use Rattle.device.specs.declared.registers.Nvmcon.{Nvmcon}
+use Rattle.device.specs.declared.registers.Nvmpwp.{Nvmpwp}
+use Rattle.device.specs.declared.registers.Nvmbwp.{Nvmbwp}
+use Rattle.device.specs.declared.registers.Nvmcon2.{Nvmcon2}
+use Rattle.device.specs.Registers.{resets, WR, WREN, PFSWAP, BFSWAP}
+
+-- a register by its number, and 0 where there is none
+unfoldable pub registerOf : Device → ℕ → ℕ
+registerOf d r =
+    pick (eqb r 0) (d .nvmcon .0)
+    (pick (eqb r 1) (d .nvmkey)
+    (pick (eqb r 2) (d .nvmaddr)
+    (pick (eqb r 3) (wordAt (d .nvmdata) 0)
+    (pick (eqb r 4) (wordAt (d .nvmdata) 1)
+    (pick (eqb r 5) (wordAt (d .nvmdata) 2)
+    (pick (eqb r 6) (wordAt (d .nvmdata) 3)
+    (pick (eqb r 7) (d .nvmsrcaddr)
+    (pick (eqb r 8) (d .nvmpwp .0)
+    (pick (eqb r 9) (d .nvmbwp .0)
+    (pick (eqb r 10) (d .nvmcon2 .0) 0))))))))))
+
+-- "power-on gives all reset values": the device then, before the comparison of the banks
+abbrev pub powerOn : Device
+powerOn =
+    record {
+      nvmcon = record { 0 = getD resets 0 0 };
+      nvmkey = getD resets 1 0;
+      nvmaddr = getD resets 2 0;
+      nvmdata = getD resets 3 0 ∷ getD resets 4 0 ∷ getD resets 5 0 ∷ getD resets 6 0 ∷ [];
+      nvmsrcaddr = getD resets 7 0;
+      nvmpwp = record { 0 = getD resets 8 0 };
+      nvmbwp = record { 0 = getD resets 9 0 };
+      nvmcon2 = record { 0 = getD resets 10 0 };
+      keystep = 0;
+      step = 0;
+    }
+
+-- the device with another NVMCON, key step and step number
+abbrev pub withCon : Device → ℕ → ℕ → ℕ → Device
+withCon d con keystep step =
+    record {
+      nvmcon = record { 0 = con };
+      nvmkey = d .nvmkey;
+      nvmaddr = d .nvmaddr;
+      nvmdata = d .nvmdata;
+      nvmsrcaddr = d .nvmsrcaddr;
+      nvmpwp = d .nvmpwp;
+      nvmbwp = d .nvmbwp;
+      nvmcon2 = d .nvmcon2;
+      keystep = keystep;
+      step = step;
+    }
+
+-- the bits of NVMCON that other rules ask for
+abbrev pub running : Device → Bool
+running d = hasOf (d .nvmcon .0) WR
+
+abbrev pub bfswap : Device → Bool
+bfswap d = hasOf (d .nvmcon .0) BFSWAP
+
+abbrev pub pfswap : Device → Bool
+pfswap d = hasOf (d .nvmcon .0) PFSWAP
+
+abbrev pub opOf : Device → ℕ
+opOf d = d .nvmcon .0 % 16
+
+-- "3 is open"
+abbrev pub isOpen : Device → Bool
+isOpen d = eqb (d .keystep) 3
