@@ -15,7 +15,6 @@ use Rattle.geometry.specs.Banks.{InRange, roundDownOf}
 use Rattle.geometry.specs.Windows.{windowBytesOf, pageOf}
 use Rattle.geometry.proofs.WindowLaws.{stands, page-below}
 use Rattle.device.specs.declared.record.Device.{Device}
-use Rattle.device.specs.Record.{opOf}
 use Rattle.device.specs.Protection.{pwpOf, programProtectedOf, pageOffsetOf, protectedOf, anyProtectedOf}
 use Rattle.device.specs.Operation.{unitOf, targetOf, regionBeginsOf, lengthOf}
 
@@ -40,42 +39,42 @@ module _ (g : Geometry) (ok : InRange g) where
       area : 1 ≤ g .q * g .p
       area = mul-le-mul (ok .q-low) (ok .p-low)
 
-  module _ (d : Device) (l : Location) (e : l ≡ targetOf g d) (inside : l .inside ≡ true) where
+  module _ (op address : ℕ) (l : Location) (e : l ≡ targetOf g op address) (inside : l .inside ≡ true) where
     pub target-room : l .offset < windowBytesOf g (l .program)
     unfolding targetOf
-    target-room = rw e (stands g ok (roundDownOf (d .nvmaddr) (unitOf g (opOf d))) (rw e at inside) .room)
+    target-room = rw e (stands g ok (roundDownOf address (unitOf g op)) (rw e at inside) .room)
 
     pub target-page : l .program ≡ true → pageOf g l < g .p
     target-page p = rw p at (page-below g ok l target-room)
 
   -- a page at a lower offset is protected too
-  lower-protected : (d : Device) (x y : ℕ) → x ≤ y → programProtectedOf d y ≡ true → programProtectedOf d x ≡ true
+  lower-protected : (pwp x y : ℕ) → x ≤ y → programProtectedOf pwp y ≡ true → programProtectedOf pwp x ≡ true
   unfolding programProtectedOf
-  lower-protected d x y h e =
-      let s = and-both (not (eqb (pwpOf d) 0)) (leb y (pwpOf d)) e in
-      let k : y ≤ pwpOf d = leb-true _ _ (s .1) in
-      rw (s .0, le-leb x (pwpOf d) (omega arith))
+  lower-protected pwp x y h e =
+      let s = and-both (not (eqb pwp 0)) (leb y pwp) e in
+      let k : y ≤ pwp = leb-true _ _ (s .1) in
+      rw (s .0, le-leb x pwp (omega arith))
 
   offset-low : (upper : Bool) (n : ℕ) → pageOffsetOf g upper 0 ≤ pageOffsetOf g upper n
   offset-low true n = omega arith
   offset-low false n = omega arith
 
-  first-protected : (d : Device) (upper : Bool) (n : ℕ)
-      → anyProtectedOf g d upper (suc n) ≡ programProtectedOf d (pageOffsetOf g upper 0)
+  first-protected : (pwp : ℕ) (upper : Bool) (n : ℕ)
+      → anyProtectedOf g pwp upper (suc n) ≡ programProtectedOf pwp (pageOffsetOf g upper 0)
   unfolding anyProtectedOf
-  first-protected d upper zero = refl
-  first-protected d upper (suc n) =
-      rw (first-protected d upper n)
-      (absorb (programProtectedOf d (pageOffsetOf g upper 0)) (programProtectedOf d (pageOffsetOf g upper (suc n)))
-      (lower-protected d (pageOffsetOf g upper 0) (pageOffsetOf g upper (suc n)) (offset-low upper (suc n))))
+  first-protected pwp upper zero = refl
+  first-protected pwp upper (suc n) =
+      rw (first-protected pwp upper n)
+      (absorb (programProtectedOf pwp (pageOffsetOf g upper 0)) (programProtectedOf pwp (pageOffsetOf g upper (suc n)))
+      (lower-protected pwp (pageOffsetOf g upper 0) (pageOffsetOf g upper (suc n)) (offset-low upper (suc n))))
     where
       absorb : (a b : Bool) → (b ≡ true → a ≡ true) → (a || b) ≡ a
       absorb true b h = refl
       absorb false true h = sym (h refl)
       absorb false false h = refl
 
-  pub region-first : (d : Device) (upper : Bool) → regionBeginsOf g d upper ≡ not (protectedOf g d true upper 0)
+  pub region-first : (d : Device) (upper : Bool) → regionBeginsOf g (pwpOf d) upper ≡ not (protectedOf g d true upper 0)
   unfolding regionBeginsOf protectedOf
   region-first d upper =
       let e : g .p ≡ suc (g .p - 1) = omega (arith, ok .p-low) in
-      ap (λ (n : ℕ). not (anyProtectedOf g d upper n)) e ∙ ap not (first-protected d upper (g .p - 1))
+      ap (λ (n : ℕ). not (anyProtectedOf g (pwpOf d) upper n)) e ∙ ap not (first-protected (pwpOf d) upper (g .p - 1))

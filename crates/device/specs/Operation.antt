@@ -9,35 +9,38 @@ use Rattle.geometry.specs.Banks.{rowBytesOf, pageBytesOf, roundDownOf}
 use Rattle.geometry.specs.Windows.{locateOf, pageOf}
 use Rattle.device.specs.declared.record.Device.{Device}
 use Rattle.device.specs.Record.{opOf}
-use Rattle.device.specs.Protection.{pwpOf, protectedOf, anyProtectedOf}
+use Rattle.device.specs.Protection.{pwpOf, programProtectedOf, pageOffsetOf, anyProtectedOf}
 
 -- "NVMOP 2 quad, 3 row, 4 page erase: NVMADDR is rounded down to 16, 16×Q or 128×Q bytes."
 unfoldable pub unitOf : Geometry → ℕ → ℕ
 unitOf g op = pick (eqb op 2) 16 (pick (eqb op 3) (rowBytesOf g) (pageBytesOf g))
 
-unfoldable pub targetOf : Geometry → Device → Location
-targetOf g d = locateOf g (roundDownOf (d .nvmaddr) (unitOf g (opOf d)))
+unfoldable pub targetOf : Geometry → ℕ → ℕ → Location
+targetOf g op address = locateOf g (roundDownOf address (unitOf g op))
 
 -- "Outside the four windows, or in a protected program page: failure"
-unfoldable pub targetBeginsOf : Geometry → Device → Bool
-targetBeginsOf g d =
-    pick (targetOf g d .inside)
-    (pick (targetOf g d .program) (not (protectedOf g d true (targetOf g d .upper) (pageOf g (targetOf g d)))) true)
-    false
+abbrev pub pageProtectedOf : Geometry → ℕ → Location → Bool
+pageProtectedOf g pwp l = programProtectedOf pwp (pageOffsetOf g (l .upper) (pageOf g l))
+
+unfoldable pub targetBeginsOf : Geometry → ℕ → Location → Bool
+targetBeginsOf g pwp l = pick (l .inside) (pick (l .program) (not (pageProtectedOf g pwp l)) true) false
 
 -- "NVMOP 5 lower region, 6 upper region: failure if any page in it is protected."
-unfoldable pub regionBeginsOf : Geometry → Device → Bool → Bool
-regionBeginsOf g d upper = not (anyProtectedOf g d upper (g .p))
+unfoldable pub regionBeginsOf : Geometry → ℕ → Bool → Bool
+regionBeginsOf g pwp upper = not (anyProtectedOf g pwp upper (g .p))
 
 -- "7 both: failure if PWP is not 0." NVMOP 0, 1 and 8 to 15 begin no steps.
-unfoldable pub beginsOf : Geometry → Device → Bool
-beginsOf g d =
-    pick (ltb (opOf d) 2) false
-    (pick (ltb (opOf d) 5) (targetBeginsOf g d)
-    (pick (eqb (opOf d) 5) (regionBeginsOf g d false)
-    (pick (eqb (opOf d) 6) (regionBeginsOf g d true)
-    (pick (eqb (opOf d) 7) (eqb (pwpOf d) 0)
+unfoldable pub beginsAtOf : Geometry → ℕ → ℕ → ℕ → Bool
+beginsAtOf g op address pwp =
+    pick (ltb op 2) false
+    (pick (ltb op 5) (targetBeginsOf g pwp (targetOf g op address))
+    (pick (eqb op 5) (regionBeginsOf g pwp false)
+    (pick (eqb op 6) (regionBeginsOf g pwp true)
+    (pick (eqb op 7) (eqb pwp 0)
     false))))
+
+abbrev pub beginsOf : Geometry → Device → Bool
+beginsOf g d = beginsAtOf g (opOf d) (d .nvmaddr) (pwpOf d)
 
 -- "1 for a quad, Q for a row, 8×Q for a page, 8×Q×P for a region", twice that for NVMOP 7
 unfoldable pub lengthOf : Geometry → ℕ → ℕ

@@ -12,8 +12,8 @@ abbrev pub pwpOf : Device → ℕ
 pwpOf d = d .nvmpwp .0 % 0x100_0000
 
 -- "Program page protected: PWP not 0 and the page's offset from 0x1D000000 at most PWP."
-unfoldable pub programProtectedOf : Device → ℕ → Bool
-programProtectedOf d offset = not (eqb (pwpOf d) 0) && leb offset (pwpOf d)
+unfoldable pub programProtectedOf : ℕ → ℕ → Bool
+programProtectedOf pwp offset = not (eqb pwp 0) && leb offset pwp
 
 -- the offset of program page i of a side: the upper region is directly after the lower
 abbrev pub pageOffsetOf : Geometry → Bool → ℕ → ℕ
@@ -26,9 +26,9 @@ bootProtectedOf d upper page = bit (pick upper page (8 + page)) (d .nvmbwp .0)
 -- a page by its kind, its side and its number of that kind
 unfoldable pub protectedOf : Geometry → Device → Bool → Bool → ℕ → Bool
 protectedOf g d program upper page =
-    pick program (programProtectedOf d (pageOffsetOf g upper page)) (bootProtectedOf d upper page)
+    pick program (programProtectedOf (pwpOf d) (pageOffsetOf g upper page)) (bootProtectedOf d upper page)
 
 -- some page below page n of a program region is protected
-unfoldable pub anyProtectedOf : Geometry → Device → Bool → ℕ → Bool
-anyProtectedOf g d upper zero = false
-anyProtectedOf g d upper (suc page) = anyProtectedOf g d upper page || programProtectedOf d (pageOffsetOf g upper page)
+unfoldable pub anyProtectedOf : Geometry → ℕ → Bool → ℕ → Bool
+anyProtectedOf g pwp upper zero = false
+anyProtectedOf g pwp upper (suc page) = anyProtectedOf g pwp upper page || programProtectedOf pwp (pageOffsetOf g upper page)

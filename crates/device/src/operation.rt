@@ -2,6 +2,7 @@
 ghost use mathlib.Core.Path.{_≡_};
 ghost use Rattle.geometry.specs.Banks.{InRange};
 ghost use Rattle.device.specs.Record.{opOf};
+ghost use Rattle.device.specs.Protection.{pwpOf};
 ghost use Rattle.device.specs.Operation.{unitOf, targetOf, targetBeginsOf, regionBeginsOf, beginsOf, lengthOf};
 use crate::protection::is_program_protected;
 use crate::protection::is_protected;
@@ -41,14 +42,14 @@ pub fn unit(g: Geometry, op: u32) -> u32
 // Where NVMOP 2, 3 and 4 begin.
 pub fn target(g: Geometry, d: Device) -> Location
     requires { ⌜ InRange g ⌝ }
-    ensures { λ r. ⌜ r ≡ targetOf g d ⌝ }
+    ensures { λ r. ⌜ r ≡ targetOf g (opOf d) (d .nvmaddr) ⌝ }
 {
     locate(g, round_down(d.nvmaddr, unit(g, op(d))))
 }
 
 fn target_begins(g: Geometry, d: Device) -> bool
     requires { ⌜ InRange g ⌝ }
-    ensures { λ r. ⌜ r ≡ targetBeginsOf g d ⌝ }
+    ensures { λ r. ⌜ r ≡ targetBeginsOf g (pwpOf d) (targetOf g (opOf d) (d .nvmaddr)) ⌝ }
 {
     let l = target(g, d);
     if !l.inside {
@@ -63,7 +64,7 @@ fn target_begins(g: Geometry, d: Device) -> bool
 // A region has a protected page where its first page is protected.
 fn region_begins(g: Geometry, d: Device, upper: bool) -> bool
     requires { ⌜ InRange g ⌝ }
-    ensures { λ r. ⌜ r ≡ regionBeginsOf g d upper ⌝ }
+    ensures { λ r. ⌜ r ≡ regionBeginsOf g (pwpOf d) upper ⌝ }
 {
     !is_protected(g, d, true, upper, 0)
 }

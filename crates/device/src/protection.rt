@@ -18,7 +18,7 @@ pub fn pwp(d: Device) -> u32
 
 // Whether the program page that starts at this offset from 0x1D000000 is protected.
 pub fn is_program_protected(d: Device, offset: u32) -> bool
-    ensures { λ r. ⌜ r ≡ programProtectedOf d offset ⌝ }
+    ensures { λ r. ⌜ r ≡ programProtectedOf (pwpOf d) offset ⌝ }
 {
     let last = pwp(d);
     if last == 0 {

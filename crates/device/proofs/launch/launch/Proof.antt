@@ -42,18 +42,18 @@ launch-spec =
     (λ c κs. search needs)
     (λ c. search needs)
     (λ c. rw (
+      sym (c .before .begins .ensures) ∙ c .if5 .taken,
       ← c .before .before .before .before .before .before .before .op .ensures,
       ne-eqb _ _ (c .before .before .before .before .before .before .if1 .left),
       sym (c .before .before .before .before .before .has .ensures) ∙ c .before .before .before .before .if2 .left,
       le-ltb _ _ (c .before .before .before .if3 .left),
       le-ltb _ _ (c .before .before .if4 .left),
-      sym (c .before .begins .ensures) ∙ c .if5 .taken,
     ))
     (λ c. rw (
+      sym (c .before .begins .ensures) ∙ c .if5 .left,
       ← c .before .before .before .before .before .before .before .op .ensures,
       ne-eqb _ _ (c .before .before .before .before .before .before .if1 .left),
       sym (c .before .before .before .before .before .has .ensures) ∙ c .before .before .before .before .if2 .left,
       le-ltb _ _ (c .before .before .before .if3 .left),
       le-ltb _ _ (c .before .before .if4 .left),
-      sym (c .before .begins .ensures) ∙ c .if5 .left,
     )))

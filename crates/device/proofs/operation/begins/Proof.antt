@@ -1,12 +1,12 @@
 -- Each way through the tests is a case of the definition.
 use borrow.Author.Tests.{eq-eqb, ne-eqb, le-ltb, lt-ltb}
 use borrow.Author.Needs.{needs}
-use Rattle.device.specs.Operation.{beginsOf}
+use Rattle.device.specs.Operation.{beginsAtOf}
 use Rattle.device.proofs.operation.begins.Statement.{statement}
 use Rattle.device.proofs.operation.begins.Tie as tie
 
 pub begins-spec : {M : Type 1} → statement M
-unfolding beginsOf
+unfolding beginsAtOf
 begins-spec =
     tie.close
     (tie.spec
