@@ -2,9 +2,7 @@
 -- Assumes nothing.
 use mathlib.Core.Path.{_≡_, refl}
 use mathlib.Core.Bool.{true, false}
-use Prim.Native.Nat.{ℕ, _≤_}
-use lib.Dec.{ltb}
-use Rattle.words.specs.Word.{pick}
+use Prim.Native.Nat.{ℕ}
 use Rattle.geometry.specs.declared.banks.Geometry.{Geometry}
 use Rattle.geometry.specs.declared.decline.Decline.{Decline}
 use Rattle.geometry.specs.Banks.{inRangeOf, InRange}
@@ -19,6 +17,7 @@ use Rattle.device.specs.StartUp.{startUpDeclineOf}
 
 -- a call on a device that can be at rest
 pub record AtRest (g : Geometry) (d : Device) : Type 0 where
+  pub listed : inRangeOf g ≡ true
   pub range : InRange g
   pub possible : possibleOf g d ≡ true
   pub idle : running d ≡ false
@@ -31,7 +30,7 @@ store-at-rest g d r form h =
     let s1 = held (possibleOf g d) _ Decline.Device refl (s0 .1) in
     let s2 = held (hasFormOf r form) _ Decline.Register refl (s1 .1) in
     let s3 = passed (running d) Decline.Running Decline.Accepted refl (s2 .1) in
-    (record { range = in-range g (s0 .0); possible = s1 .0; idle = s3 .0 }, s2 .0)
+    (record { listed = s0 .0; range = in-range g (s0 .0); possible = s1 .0; idle = s3 .0 }, s2 .0)
 
 pub start-up-at-rest : (g : Geometry) (d : Device) → acceptedOf (startUpDeclineOf g d) ≡ true → AtRest g d
 unfolding startUpDeclineOf
@@ -39,7 +38,7 @@ start-up-at-rest g d h =
     let s0 = held (inRangeOf g) _ Decline.Geometry refl h in
     let s1 = held (possibleOf g d) _ Decline.Device refl (s0 .1) in
     let s2 = passed (running d) Decline.Running Decline.Accepted refl (s1 .1) in
-    record { range = in-range g (s0 .0); possible = s1 .0; idle = s2 .0 }
+    record { listed = s0 .0; range = in-range g (s0 .0); possible = s1 .0; idle = s2 .0 }
 
 pub read-possible : (g : Geometry) (d : Device) (r : ℕ) → acceptedOf (readDeclineOf g d r) ≡ true
     → InRange g × (possibleOf g d ≡ true)

@@ -7,3 +7,4 @@ pub mod Fields
 pub mod Launch
 pub mod Store
 pub mod StartUp
+pub mod Bench

@@ -1,8 +1,8 @@
 -- Decline 3: "The device record is impossible". Assumes nothing.
-use Prim.Native.Nat.{ℕ, zero, suc}
-use mathlib.Core.Bool.{Bool, true, false, not, _&&_}
+use Prim.Native.Nat.{ℕ}
+use mathlib.Core.Bool.{Bool, not, _&&_}
 use lib.Dec.{eqb, leb, ltb}
-use Rattle.words.specs.Word.{pick, hasOf}
+use Rattle.words.specs.Word.{pick, hasOf, allBelow}
 use Rattle.geometry.specs.declared.banks.Geometry.{Geometry}
 use Rattle.device.specs.declared.record.Device.{Device}
 use Rattle.device.specs.Registers.{withinOf, WRERR, LVDERR, ALWAYS}
@@ -11,8 +11,7 @@ use Rattle.device.specs.Operation.{beginsOf, lengthOf}
 
 -- each register below number n is within its mask
 abbrev pub rowsFit : Device → ℕ → Bool
-rowsFit d zero = true
-rowsFit d (suc r) = rowsFit d r && withinOf r (registerOf d r)
+rowsFit d n = allBelow (λ r. withinOf r (registerOf d r)) n
 
 -- "an unimplemented bit set", over the table of eleven rows; "NVMKEY not 0" is its row's mask, 0
 unfoldable pub implementedOf : Device → Bool

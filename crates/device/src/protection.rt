@@ -44,10 +44,10 @@ fn page_offset(g: Geometry, upper: bool, page: u32) -> u32
     requires { ⌜ page < g .p ⌝ }
     ensures { λ r. ⌜ r ≡ pageOffsetOf g upper page ⌝ }
 {
-    if upper {
-        return program_bytes(g) + page * page_bytes(g);
+    if !upper {
+        return page * page_bytes(g);
     }
-    page * page_bytes(g)
+    program_bytes(g) + page * page_bytes(g)
 }
 
 // Whether a page of a window is protected. No call of the device: callers show that there is such a page.

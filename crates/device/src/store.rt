@@ -128,12 +128,12 @@ fn store_accepted(g: Geometry, d: Device, number: u32, form: u32, value: u32) ->
     let w = wanted(form, register(d, number), value);
     if number == 0 {
         let l = con_store(g, d, w);
-        let mut e = d;
-        e.keystep = 0;
-        e.nvmcon.0 = l.nvmcon;
+        let mut after = d;
+        after.keystep = 0;
+        after.nvmcon.0 = l.nvmcon;
         return Stored {
             decline: Decline::Accepted,
-            device: e,
+            device: after,
             event: l.event,
         };
     }
@@ -180,12 +180,12 @@ pub fn register_read(g: Geometry, d: Device, number: u32) -> RegisterRead
 {
     let decline = read_decline(g, d, number);
     if decline.is_accepted() {
-        let mut e = d;
-        e.keystep = 0;
+        let mut shut = d;
+        shut.keystep = 0;
         return RegisterRead {
             decline,
             value: register(d, number),
-            device: e,
+            device: shut,
         };
     }
     RegisterRead {

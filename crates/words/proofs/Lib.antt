@@ -1,3 +1,4 @@
 pub mod PickLaws
 pub mod BitLaws
+pub mod MaskLaws
 pub mod QuadLaws

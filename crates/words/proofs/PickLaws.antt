@@ -1,9 +1,11 @@
 -- Choosing by a test. Assumes nothing.
 use mathlib.Core.Path.{_≡_, refl}
 use mathlib.Core.Bool.{Bool, true, false, _&&_}
-use Prim.Native.Nat.{ℕ, _≤_}
+use Prim.Native.Nat.{ℕ, zero, suc, _<_}
+use native.Mathlib.Nat.{not-suc-le-zero}
+use native.Mathlib.Decide.{decLe}
 use native.Mathlib.Omega.{arith}
-use Rattle.words.specs.Word.{pick}
+use Rattle.words.specs.Word.{pick, allBelow}
 
 pub pick-same : {A : Type 0} (t : Bool) (x : A) → pick t x x ≡ x
 pick-same true x = refl
@@ -18,3 +20,12 @@ pick-both P false p q = q
 pub and-both : (a b : Bool) → (a && b) ≡ true → (a ≡ true) × (b ≡ true)
 and-both true b h = (refl, h)
 and-both false b h = let z : _≡_ {A = ℕ} 0 1 = cc in absurd (omega arith)
+
+-- what is tested of every number below n holds of each
+pub all-below : (p : ℕ → Bool) (n : ℕ) → allBelow p n ≡ true → (k : ℕ) → k < n → p k ≡ true
+all-below p zero h k l = absurd (not-suc-le-zero l)
+all-below p (suc n) h k l = go (decLe (suc k) n) (all-below p n (and-both (allBelow p n) (p n) h .0) k)
+  where
+    go : Dec (k < n) → (k < n → p k ≡ true) → p k ≡ true
+    go (yes i) below = below i
+    go (no i) below = let e : k ≡ n = omega arith in rw e (and-both (allBelow p n) (p n) h .1)

@@ -1,6 +1,6 @@
 -- A word by its bits. Assumes nothing.
-use Prim.Native.Nat.{ℕ, _/_, _%_, _^_}
-use mathlib.Core.Bool.{Bool, true, false, not}
+use Prim.Native.Nat.{ℕ, zero, suc, _/_, _%_, _^_}
+use mathlib.Core.Bool.{Bool, true, false, not, _&&_}
 use lib.Dec.{eqb}
 use lib.Bits.{bitAnd, bitXor}
 
@@ -28,3 +28,8 @@ mergeOf mask a b = bitXor (bitAnd (bitXor a b) mask) b
 -- w with the bits of the mask at 0 (`clear-bit` of proofs/BitLaws says so of each bit)
 abbrev pub clearOf : ℕ → ℕ → ℕ
 clearOf w mask = bitXor (bitAnd w mask) w
+
+-- p holds of every number below n
+abbrev pub allBelow : (ℕ → Bool) → ℕ → Bool
+allBelow p zero = true
+allBelow p (suc n) = allBelow p n && p n

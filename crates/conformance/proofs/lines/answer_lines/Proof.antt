@@ -1,0 +1,36 @@
+-- The invariant: lines are answered up to a place within what is held, and the output buffer keeps its length. The measure is what is left.
+use Prim.Native.Nat.{_≤_, _-_}
+use mathlib.Core.Path.{_≡_}
+use native.Mathlib.Omega.{arith}
+use borrow.Author.Needs.{needs}
+use lib.ListN.{length}
+use Rattle.conformance.specs.Output.{Used}
+use Rattle.conformance.proofs.lines.answer_lines.Statement.{statement}
+use Rattle.conformance.proofs.lines.answer_lines.Tie as tie
+
+abbrev Inv-loop : tie.InvT-loop
+Inv-loop held out₀ start₀ used₀ out start used = (start ≤ length held) × (length out ≡ length out₀) × Used out used
+
+abbrev μ-loop : tie.MeasureT-loop
+μ-loop held out₀ start₀ used₀ out start used = length held - start
+
+pub answer-lines-spec : {M : Type 1} → statement M
+answer-lines-spec =
+    tie.close
+    (tie.spec
+    Inv-loop
+    μ-loop
+    (λ c. search needs)
+    (λ c κs. omega arith)
+    (λ c. omega arith)
+    (λ c. omega arith)
+    (λ c. omega arith)
+    (λ c κs. tt)
+    (λ c κs. search needs)
+    (λ c. omega arith)
+    (λ c. omega arith)
+    (λ c. search needs)
+    (λ c. omega arith)
+    (λ c. search needs)
+    (λ c. omega arith)
+    (λ c. search needs))

@@ -1,0 +1,29 @@
+-- What is answered lies within what was filled, and that within the buffer.
+use mathlib.Core.Path.{sym}
+use native.Mathlib.Omega.{arith}
+use borrow.Author.Needs.{needs}
+use lib.Seq.{length-take-le}
+use Rattle.conformance.proofs.lines.turn.Statement.{statement}
+use Rattle.conformance.proofs.lines.turn.Tie as tie
+
+keep-requires : tie.Need-keep-requires
+keep-requires c κs =
+    let filled = c .before .before .before .before .before .before .before .before .before .before .before .fill in
+    omega (arith, length-take-le (filled .result) (filled .last .0) (filled .ensures .1), filled .ensures)
+
+pub turn-spec : {M : Type 1} → statement M
+turn-spec =
+    tie.close
+    (tie.spec
+    (λ c κs. search needs)
+    (λ c. search needs)
+    (λ c. search needs)
+    (λ c. search needs)
+    (λ c. sym (length-take-le _ _ (omega arith)))
+    (λ c κs. search needs)
+    (λ c κs. search needs)
+    keep-requires
+    (λ c κs. search needs)
+    (λ c. search needs)
+    (λ c. search needs)
+    (λ c. search needs))

@@ -1,0 +1,4 @@
+pub mod Bytes
+pub mod Numbers
+pub mod Records
+pub mod Output
