@@ -4,7 +4,7 @@
 use mathlib.Core.Path.{_≡_, refl, sym, ap, _∙_}
 use mathlib.Core.Bool.{Bool, true, false, not, _&&_}
 use Prim.Native.Nat.{ℕ, _+_, _-_, _*_, _/_, _≤_, _<_}
-use native.Mathlib.Nat.{mul-le-mul, div-lt-iff-lt-mul, mul-add-div-right, mul-assoc, div-mul-le-self, lt-of-le-of-lt}
+use native.Mathlib.Nat.{mul-le-mul, div-lt-iff-lt-mul, mul-add-div-right, mul-assoc, div-mul-le-self, lt-of-le-of-lt, le-trans, le-refl, suc-mul, mul-div-cancel}
 use native.Mathlib.Omega.{arith}
 use lib.Dec.{leb, ltb}
 use borrow.Author.Tests.{le-leb, lt-leb, le-ltb, lt-ltb, leb-true, ltb-true}
@@ -14,7 +14,7 @@ use Rattle.geometry.specs.declared.banks.Geometry.{Geometry}
 use Rattle.geometry.specs.declared.windows.Location.{Location}
 use Rattle.geometry.specs.Banks.{InRange, pageBytesOf, bootWordsOf, bootQuadsOf, bankWordsOf, roundDownOf}
 use Rattle.geometry.specs.Windows.{lowerBoot, upperBoot, lowerProgram, windowStartOf, windowBytesOf, located, nowhere, inWindowOf, orElse, locateOf, pageOf, wordIndexOf, quadIndexOf}
-use Rattle.geometry.proofs.SizeLaws.{Unit, page-pos}
+use Rattle.geometry.proofs.SizeLaws.{Unit, page-pos, unit-in-page}
 
 -- an address and where it stands belong together
 pub record Stands (g : Geometry) (a : ℕ) (l : Location) : Type 0 where
@@ -117,6 +117,26 @@ module _ (g : Geometry) (ok : InRange g) where
       ap (λ (x : ℕ). locateOf g (roundDownOf x u)) (s .address)
       ∙ ap (locateOf g) (round-start u m unit (l .program) (l .upper) (l .offset))
       ∙ window-found (l .program) (l .upper) (roundDownOf (l .offset) u) (lt-of-le-of-lt (div-mul-le-self (l .offset) u) (s .room))
+
+  -- a window is whole pages
+  page-end : (program : Bool) (x : ℕ) → x < windowBytesOf g program
+      → roundDownOf x (pageBytesOf g) + pageBytesOf g ≤ windowBytesOf g program
+  page-end true x h = omega (arith, mul-le-mul (div-lt-iff-lt-mul (page-pos g ok) .1 h) (le-refl (pageBytesOf g)), suc-mul (x / pageBytesOf g) (pageBytesOf g))
+  page-end false x h = omega (arith, mul-le-mul (div-lt-iff-lt-mul (page-pos g ok) .1 h) (le-refl (pageBytesOf g)), suc-mul (x / pageBytesOf g) (pageBytesOf g))
+
+  -- a quad, row or page that was rounded to lies whole in its window
+  pub unit-room : (u m : ℕ) → Unit g u m → (b : ℕ) → locateOf g (roundDownOf b u) .inside ≡ true
+      → let l = locateOf g (roundDownOf b u) in l .offset + u ≤ windowBytesOf g (l .program)
+  unit-room u m unit b h =
+      let l = locateOf g (roundDownOf b u) in
+      let s : Stands g (roundDownOf b u) l = stands (roundDownOf b u) h in
+      let again : roundDownOf (roundDownOf b u) u ≡ roundDownOf b u = ap (λ (x : ℕ). x * u) (mul-div-cancel (b / u) (unit .some)) in
+      let moved : roundDownOf (windowStartOf g (l .program) (l .upper) + l .offset) u ≡ windowStartOf g (l .program) (l .upper) + roundDownOf (l .offset) u =
+      round-start u m unit (l .program) (l .upper) (l .offset) in
+      let same : windowStartOf g (l .program) (l .upper) + roundDownOf (l .offset) u ≡ windowStartOf g (l .program) (l .upper) + l .offset =
+      sym moved ∙ ap (λ (x : ℕ). roundDownOf x u) (sym (s .address)) ∙ again ∙ s .address in
+      let kept : roundDownOf (l .offset) u ≡ l .offset = omega (arith, same) in
+      le-trans (rw kept at (unit-in-page g ok u m unit (l .offset))) (page-end (l .program) (l .offset) (s .room))
 
   -- ---- what stands in a window lies in its bank
   module _ (l : Location) (room : l .offset < windowBytesOf g (l .program)) where

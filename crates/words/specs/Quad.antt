@@ -1,6 +1,8 @@
 -- "a quad is four words": a list of four, and the quads of a bank. Assumes nothing.
 use Prim.Native.Nat.{ℕ, _+_, _*_}
+use mathlib.Core.Bool.{Bool, _&&_}
 use mathlib.Core.List.{List, [], _∷_}
+use lib.Dec.{eqb}
 use lib.ListN.{getD, set}
 use Rattle.words.specs.Word.{mergeOf, allOnes}
 
@@ -28,6 +30,11 @@ putQuad bank i quad = putFrom bank (4 * i) quad
 -- four words of all ones, as erasing leaves a quad
 abbrev pub blankQuad : List ℕ
 blankQuad = allOnes ∷ allOnes ∷ allOnes ∷ allOnes ∷ []
+
+-- "four words of all ones"
+abbrev pub isBlankOf : List ℕ → Bool
+isBlankOf quad =
+    eqb (wordAt quad 0) allOnes && (eqb (wordAt quad 1) allOnes && (eqb (wordAt quad 2) allOnes && eqb (wordAt quad 3) allOnes))
 
 -- word j of two quads merged
 abbrev pub mergeWord : List ℕ → List ℕ → List ℕ → ℕ → ℕ
