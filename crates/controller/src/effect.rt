@@ -45,7 +45,7 @@ fn inside(program: bool, upper: bool, offset: u32) -> Location
 }
 
 // Where the quad of the next step stands.
-fn step_location(g: Geometry, d: Device) -> Location
+pub fn step_location(g: Geometry, d: Device) -> Location
     requires { ⌜ Runs g d ⌝ }
     ensures { λ r. ⌜ r ≡ stepLocationOf g d ⌝ }
 {
@@ -98,7 +98,7 @@ fn source_fits(d: Device, sram: usize) -> bool
 }
 
 // A quad as it is before the step.
-fn old_quad(one: &[u32], two: &[u32], second: bool, quad: u32) -> [u32; 4]
+pub fn old_quad(one: &[u32], two: &[u32], second: bool, quad: u32) -> [u32; 4]
     requires { ⌜ (4 * quad + 4 ≤ length (now one)) × (4 * quad + 4 ≤ length (now two)) ⌝ }
     ensures { λ r. ⌜ r ≡ oldQuadOf (now (one .entry)) (now (two .entry)) second quad ⌝ }
 {

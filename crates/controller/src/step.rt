@@ -82,7 +82,14 @@ fn advance(g: Geometry, d: Device, aborts: bool) -> Advanced
 }
 
 // Writes the quad where the step does.
-fn apply(one: &mut [u32], two: &mut [u32], writes: bool, second: bool, quad: u32, words: [u32; 4])
+pub fn apply(
+    one: &mut [u32],
+    two: &mut [u32],
+    writes: bool,
+    second: bool,
+    quad: u32,
+    words: [u32; 4],
+)
     requires { ⌜ (4 * quad + 4 ≤ length (now one)) × (4 * quad + 4 ≤ length (now two)) ⌝ }
     ensures { λ _. ⌜ (now (one .exit) ≡ oneAfter (now (one .entry)) writes second quad words) × (now (two .exit) ≡ twoAfter (now (two .entry)) writes second quad words) ⌝ }
 {

@@ -1,0 +1,157 @@
+// Resets: the tear of a running step, the registers by kind, the comparison of the banks.
+ghost use mathlib.Core.Path.{_≡_};
+ghost use mathlib.Core.Bool.{true, false};
+ghost use lib.Bits.{bitOr};
+ghost use Rattle.words.specs.Word.{pick};
+ghost use Rattle.device.specs.Registers.{BFSWAP};
+ghost use lib.ListN.{length};
+ghost use Rattle.geometry.specs.Banks.{InRange, bankWordsOf};
+ghost use Rattle.device.specs.Possible.{possibleOf};
+ghost use Rattle.controller.specs.Step.{after};
+ghost use Rattle.controller.specs.Reset.{resetDeclineOf, oneTornOf, twoTornOf, comparedOf, resetConOf, resetDeviceOf, resetOf};
+use crate::effect::next_effect;
+use crate::effect::old_quad;
+use crate::lengths::lengths_fit;
+use crate::step::apply;
+use device::possible::is_possible;
+use device::record::Device;
+use device::record::power_on;
+use device::registers::Nvmcon;
+use device::registers::Nvmcon2;
+use device::registers::reset_value;
+use geometry::banks::Geometry;
+use geometry::banks::in_range;
+use geometry::decline::Decline;
+use geometry::sequence::bfswap;
+use geometry::sequence::sequence_index;
+use words::quad::merge_quad;
+use words::word::clear;
+use words::word::has;
+use words::word::merge;
+
+// The answer to a reset. Where it is declined the device and the banks are as before.
+pub struct Restarted {
+    pub decline: Decline,
+    pub device: Device,
+}
+
+fn reset_decline(g: Geometry, d: Device, one: usize, two: usize, sram: usize, kind: u32) -> Decline
+    ensures { λ r. ⌜ r ≡ resetDeclineOf g d one two sram kind ⌝ }
+{
+    if !in_range(g) {
+        return Decline::Geometry;
+    }
+    if !lengths_fit(g, one, two, sram) {
+        return Decline::Length;
+    }
+    if !is_possible(g, d) {
+        return Decline::Device;
+    }
+    if 2 < kind {
+        return Decline::ResetKind;
+    }
+    Decline::Accepted
+}
+
+// Tears the quad of the next step where an operation runs.
+fn tear(g: Geometry, d: Device, one: &mut [u32], two: &mut [u32], sram: &[u32], mask: [u32; 4])
+    requires { ⌜ InRange g ⌝ }
+    requires { ⌜ possibleOf g d ≡ true ⌝ }
+    requires { ⌜ (length (now one) ≡ bankWordsOf g) × (length (now two) ≡ bankWordsOf g) ⌝ }
+    ensures { λ _. ⌜ (now (one .exit) ≡ oneTornOf g d (now (one .entry)) (now (two .entry)) (now (sram .entry)) mask) × (now (two .exit) ≡ twoTornOf g d (now (one .entry)) (now (two .entry)) (now (sram .entry)) mask) ⌝ }
+{
+    if !has(d.nvmcon.0, Nvmcon::WR) {
+        return;
+    }
+    let e = next_effect(g, d, one, two, sram);
+    let intended = e.intended;
+    let old = old_quad(one, two, e.second, e.quad);
+    let torn = merge_quad(mask, intended, old);
+    apply(one, two, e.writes, e.second, e.quad, torn);
+}
+
+// BFSWAP by the comparison of the two banks.
+fn compared(g: Geometry, one: &[u32], two: &[u32]) -> bool
+    requires { ⌜ InRange g ⌝ }
+    requires { ⌜ (length (now one) ≡ bankWordsOf g) × (length (now two) ≡ bankWordsOf g) ⌝ }
+    ensures { λ r. ⌜ r ≡ comparedOf g (now (one .entry)) (now (two .entry)) ⌝ }
+{
+    let i = sequence_index(g) as usize;
+    bfswap(one[i], two[i])
+}
+
+// NVMCON after a reset, but for BFSWAP.
+fn reset_con(d: Device, kind: u32) -> u32
+    ensures { λ r. ⌜ r ≡ resetConOf d kind ⌝ }
+{
+    if kind == 0 {
+        return reset_value(0);
+    }
+    let kept = clear(
+        d.nvmcon.0,
+        Nvmcon::WR + Nvmcon::WREN + Nvmcon::PFSWAP + Nvmcon::BFSWAP,
+    );
+    if kind != 1 {
+        return kept;
+    }
+    if has(d.nvmcon.0, Nvmcon::WR) {
+        return kept | Nvmcon::LVDERR;
+    }
+    kept
+}
+
+fn swapped(con: u32, swap: bool) -> u32
+    ensures { λ r. ⌜ r ≡ bitOr con (pick swap BFSWAP 0) ⌝ }
+{
+    if swap {
+        return con | Nvmcon::BFSWAP;
+    }
+    con | 0
+}
+
+// The device after a reset.
+fn reset_device(d: Device, kind: u32, swap: bool) -> Device
+    ensures { λ r. ⌜ r ≡ resetDeviceOf d kind swap ⌝ }
+{
+    let con = swapped(reset_con(d, kind), swap);
+    if kind == 0 {
+        let mut fresh = power_on();
+        fresh.nvmcon.0 = con;
+        return fresh;
+    }
+    let mut e = d;
+    let con2 = merge(Nvmcon2::NVMERS, d.nvmcon2.0, reset_value(10));
+    let pwp = reset_value(8);
+    let bwp = reset_value(9);
+    e.nvmcon.0 = con;
+    e.nvmpwp.0 = pwp;
+    e.nvmbwp.0 = bwp;
+    e.nvmcon2.0 = con2;
+    e.keystep = 0;
+    e.step = 0;
+    e
+}
+
+// A reset: kind 0 power-on, 1 brown-out, 2 other.
+pub fn reset(
+    g: Geometry,
+    d: Device,
+    one: &mut [u32],
+    two: &mut [u32],
+    sram: &[u32],
+    kind: u32,
+    mask: [u32; 4],
+) -> Restarted
+    ensures { λ r. ⌜ after (r .decline) (r .device) (now (one .exit)) (now (two .exit)) false ≡ resetOf g d (now (one .entry)) (now (two .entry)) (now (sram .entry)) kind mask ⌝ }
+{
+    let decline = reset_decline(g, d, one.len(), two.len(), sram.len(), kind);
+    if !decline.is_accepted() {
+        return Restarted { decline, device: d };
+    }
+    tear(g, d, one, two, sram, mask);
+    let swap = compared(g, one, two);
+    Restarted {
+        decline: Decline::Accepted,
+        device: reset_device(d, kind, swap),
+    }
+}
