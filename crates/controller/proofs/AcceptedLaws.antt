@@ -59,14 +59,14 @@ module _ (g : Geometry) (d : Device) where
           possible = can;
         }
 
-    pub step-ready : acceptedOf (stepDeclineOf g d one two sram) ≡ true → Ready g d one two sram × Runs g d
+    pub step-ready : acceptedOf (stepDeclineOf g d one two sram) ≡ true → Ready g d one two sram × Runs g d × (running d ≡ true)
     unfolding stepDeclineOf
     step-ready h =
         let s0 = held (inRangeOf g) _ Decline.Geometry refl h in
         let s1 = held (lengthsFitOf g one two sram) _ Decline.Length refl (s0 .1) in
         let s2 = held (possibleOf g d) _ Decline.Device refl (s1 .1) in
         let s3 = held (running d) Decline.Accepted Decline.Idle refl (s2 .1) in
-        (ready (s0 .0) (s1 .0) (s2 .0), runs (in-range g (s0 .0)) (s2 .0) (s3 .0))
+        (ready (s0 .0) (s1 .0) (s2 .0), runs (in-range g (s0 .0)) (s2 .0) (s3 .0), s3 .0)
 
     pub reset-ready : (kind : ℕ) → acceptedOf (resetDeclineOf g d one two sram kind) ≡ true → Ready g d one two sram
     unfolding resetDeclineOf

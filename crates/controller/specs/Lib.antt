@@ -4,3 +4,4 @@ pub mod Step
 pub mod Reset
 pub mod Read
 pub mod Parts
+pub mod Machine
