@@ -65,7 +65,7 @@ module _ (g : Geometry) (d : Device) (can : possibleOf g d ≡ true) (on : runni
 
       go : (t : Bool) → eqb (d .step + 1) (lengthOf g (opOf d)) ≡ t
           → P (pick t (advanced (withCon d (clearOf (d .nvmcon .0) (WR + WRERR)) (d .keystep) 0) true)
-              (advanced (withCon d (d .nvmcon .0) (d .keystep) (d .step + 1)) false))
+          (advanced (withCon d (d .nvmcon .0) (d .keystep) (d .step + 1)) false))
       go true e = rested (clearOf (d .nvmcon .0) 0xA000) (clear-within 0xF0CF _ 0xA000 (was .rows .con)) (clear-bit 15 (d .nvmcon .0) 0xA000 ∙ and-false (bit 15 (d .nvmcon .0)))
       go false e = going e
 
@@ -106,20 +106,22 @@ module _ (g : Geometry) (d : Device) (can : possibleOf g d ≡ true) (kind : ℕ
   unfolding resetConOf Cleared
   cleared =
       pick-both Cleared (eqb kind 0) (record { inside = refl }, refl, refl)
-      (pick-both Cleared (eqb kind 1 && running d)
-      (or-within 0xF0CF kept LVDERR (keeps .0) (record { inside = refl }),
-      bit-or 15 kept LVDERR ∙ or-false (bit 15 kept) ∙ keeps .1,
-      bit-or 6 kept LVDERR ∙ or-false (bit 6 kept) ∙ keeps .2)
+      (pick-both Cleared (eqb kind 1 && running d) (
+        or-within 0xF0CF kept LVDERR (keeps .0) (record { inside = refl }),
+        bit-or 15 kept LVDERR ∙ or-false (bit 15 kept) ∙ keeps .1,
+        bit-or 6 kept LVDERR ∙ or-false (bit 6 kept) ∙ keeps .2,
+      )
       keeps)
     where
       kept : ℕ
       kept = clearOf (d .nvmcon .0) 0xC0C0
 
       keeps : Cleared kept
-      keeps =
-          (clear-within 0xF0CF (d .nvmcon .0) 0xC0C0 (old .rows .con),
-          clear-bit 15 (d .nvmcon .0) 0xC0C0 ∙ and-false (bit 15 (d .nvmcon .0)),
-          clear-bit 6 (d .nvmcon .0) 0xC0C0 ∙ and-false (bit 6 (d .nvmcon .0)))
+      keeps = (
+        clear-within 0xF0CF (d .nvmcon .0) 0xC0C0 (old .rows .con),
+        clear-bit 15 (d .nvmcon .0) 0xC0C0 ∙ and-false (bit 15 (d .nvmcon .0)),
+        clear-bit 6 (d .nvmcon .0) 0xC0C0 ∙ and-false (bit 6 (d .nvmcon .0)),
+      )
 
   con : ℕ
   con = bitOr (resetConOf d kind) (pick swap BFSWAP 0)

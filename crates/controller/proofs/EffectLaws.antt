@@ -38,7 +38,7 @@ module _ (g : Geometry) (ok : InRange g) where
       small : (t : Bool) {x y : ℕ} → x ≤ 2 ^ 17 → y ≤ 2 ^ 17 → pick t x y ≤ 2 ^ 17
       small = pick-both (λ (n : ℕ). n ≤ 2 ^ 17)
 
-  begins-inside : (pwp : ℕ) (l : Location) → targetBeginsOf g pwp l ≡ true → l .inside ≡ true
+  pub begins-inside : (pwp : ℕ) (l : Location) → targetBeginsOf g pwp l ≡ true → l .inside ≡ true
   unfolding targetBeginsOf
   begins-inside pwp l h = go (l .inside) refl h
     where
@@ -47,7 +47,7 @@ module _ (g : Geometry) (ok : InRange g) where
       go false e h = true-not-false (sym h)
 
   -- a location with room for its quad
-  pub Room : Location → Type 0
+  unfoldable pub Room : Location → Type 0
   Room l = l .offset + 16 ≤ windowBytesOf g (l .program)
 
   target-room : (op address pwp step m : ℕ) → Unit g (unitOf g op) m → targetBeginsOf g pwp (targetOf g op address) ≡ true
@@ -67,7 +67,7 @@ module _ (g : Geometry) (ok : InRange g) where
       go true e = omega (arith, ltb-true step (regionSteps g) e)
       go false e = omega (arith, ltb-false step (regionSteps g) e)
 
-  none-above : (op address pwp : ℕ) → 8 ≤ op → beginsAtOf g op address pwp ≡ false
+  pub none-above : (op address pwp : ℕ) → 8 ≤ op → beginsAtOf g op address pwp ≡ false
   unfolding beginsAtOf
   none-above op address pwp h =
       rw (

@@ -3,3 +3,5 @@ pub mod AcceptedLaws
 pub mod PartsLaws
 pub mod DeviceLaws
 pub mod MachineLaws
+pub mod ProtectionLaws
+pub mod Machine

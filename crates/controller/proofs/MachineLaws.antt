@@ -61,24 +61,24 @@ module _ (bank : List ℕ) (writes second : Bool) (quad : ℕ) (words : List ℕ
 -- a property of the state after a step, where it is carried out and where not
 by-step : (g : Geometry) (s : State) (sram : List ℕ) (P : After → Type 0)
     → (acceptedOf (stepDeclineOf g (s .device) (length (s .one)) (length (s .two)) (length sram)) ≡ true
-      → P (stepAcceptedOf g (s .device) (s .one) (s .two) (effectOf g (s .device) (s .one) (s .two) sram)))
+    → P (stepAcceptedOf g (s .device) (s .one) (s .two) (effectOf g (s .device) (s .one) (s .two) sram)))
     → (acceptedOf (stepDeclineOf g (s .device) (length (s .one)) (length (s .two)) (length sram)) ≡ false
-      → P (after (stepDeclineOf g (s .device) (length (s .one)) (length (s .two)) (length sram)) (s .device) (s .one) (s .two) false))
+    → P (after (stepDeclineOf g (s .device) (length (s .one)) (length (s .two)) (length sram)) (s .device) (s .one) (s .two) false))
     → P (stepOf g (s .device) (s .one) (s .two) sram)
 unfolding stepOf
 by-step g s sram P yes′ no′ = go (acceptedOf (stepDeclineOf g (s .device) (length (s .one)) (length (s .two)) (length sram))) refl
   where
     go : (t : Bool) → acceptedOf (stepDeclineOf g (s .device) (length (s .one)) (length (s .two)) (length sram)) ≡ t
         → P (pick t (stepAcceptedOf g (s .device) (s .one) (s .two) (effectOf g (s .device) (s .one) (s .two) sram))
-            (after (stepDeclineOf g (s .device) (length (s .one)) (length (s .two)) (length sram)) (s .device) (s .one) (s .two) false))
+        (after (stepDeclineOf g (s .device) (length (s .one)) (length (s .two)) (length sram)) (s .device) (s .one) (s .two) false))
     go true e = yes′ e
     go false e = no′ e
 
 by-reset : (g : Geometry) (s : State) (sram : List ℕ) (kind : ℕ) (mask : List ℕ) (P : After → Type 0)
     → (acceptedOf (resetDeclineOf g (s .device) (length (s .one)) (length (s .two)) (length sram) kind) ≡ true
-      → P (restartOf g (s .device) kind (oneTornOf g (s .device) (s .one) (s .two) sram mask) (twoTornOf g (s .device) (s .one) (s .two) sram mask)))
+    → P (restartOf g (s .device) kind (oneTornOf g (s .device) (s .one) (s .two) sram mask) (twoTornOf g (s .device) (s .one) (s .two) sram mask)))
     → (acceptedOf (resetDeclineOf g (s .device) (length (s .one)) (length (s .two)) (length sram) kind) ≡ false
-      → P (after (resetDeclineOf g (s .device) (length (s .one)) (length (s .two)) (length sram) kind) (s .device) (s .one) (s .two) false))
+    → P (after (resetDeclineOf g (s .device) (length (s .one)) (length (s .two)) (length sram) kind) (s .device) (s .one) (s .two) false))
     → P (resetOf g (s .device) (s .one) (s .two) sram kind mask)
 unfolding resetOf
 by-reset g s sram kind mask P yes′ no′ =
@@ -86,7 +86,7 @@ by-reset g s sram kind mask P yes′ no′ =
   where
     go : (t : Bool) → acceptedOf (resetDeclineOf g (s .device) (length (s .one)) (length (s .two)) (length sram) kind) ≡ t
         → P (pick t (restartOf g (s .device) kind (oneTornOf g (s .device) (s .one) (s .two) sram mask) (twoTornOf g (s .device) (s .one) (s .two) sram mask))
-            (after (resetDeclineOf g (s .device) (length (s .one)) (length (s .two)) (length sram) kind) (s .device) (s .one) (s .two) false))
+        (after (resetDeclineOf g (s .device) (length (s .one)) (length (s .two)) (length sram) kind) (s .device) (s .one) (s .two) false))
     go true e = yes′ e
     go false e = no′ e
 
@@ -127,9 +127,10 @@ torn-length : (g : Geometry) (s : State) (sram mask : List ℕ)
     → (length (oneTornOf g (s .device) (s .one) (s .two) sram mask) ≡ length (s .one))
     × (length (twoTornOf g (s .device) (s .one) (s .two) sram mask) ≡ length (s .two))
 torn-length g s sram mask =
-    let e = effectOf g (s .device) (s .one) (s .two) sram in
-    (pick-both (λ (l : List ℕ). length l ≡ length (s .one)) (running (s .device)) (one-length (s .one) (e .writes) (e .second) (e .quad) (tornQuadOf e mask (s .one) (s .two))) refl,
-    pick-both (λ (l : List ℕ). length l ≡ length (s .two)) (running (s .device)) (two-length (s .two) (e .writes) (e .second) (e .quad) (tornQuadOf e mask (s .one) (s .two))) refl)
+    let e = effectOf g (s .device) (s .one) (s .two) sram in (
+      pick-both (λ (l : List ℕ). length l ≡ length (s .one)) (running (s .device)) (one-length (s .one) (e .writes) (e .second) (e .quad) (tornQuadOf e mask (s .one) (s .two))) refl,
+      pick-both (λ (l : List ℕ). length l ≡ length (s .two)) (running (s .device)) (two-length (s .two) (e .writes) (e .second) (e .quad) (tornQuadOf e mask (s .one) (s .two))) refl,
+    )
 
 transition-sound : (g : Geometry) (s : State) (o : Operation) → BringsWord o → Sound g s → Sound g (transitionOf g s o)
 transition-sound g s (store r form value) w h =
@@ -151,22 +152,22 @@ transition-sound g s (flashRead address) w h = h
 transition-sound g s (step sram) w h =
     by-step g s sram (λ a. Sound g (left a))
     (λ on.
-      let r = step-ready g (s .device) _ _ _ on in
-      let e = effectOf g (s .device) (s .one) (s .two) sram in
-      record {
-        possible = advance-possible g (s .device) (h .possible) (r .2) (e .aborts);
-        first = one-length (s .one) (e .writes) (e .second) (e .quad) (e .intended) ∙ h .first;
-        other = two-length (s .two) (e .writes) (e .second) (e .quad) (e .intended) ∙ h .other;
-      })
+    let r = step-ready g (s .device) _ _ _ on in
+    let e = effectOf g (s .device) (s .one) (s .two) sram in
+    record {
+      possible = advance-possible g (s .device) (h .possible) (r .2) (e .aborts);
+      first = one-length (s .one) (e .writes) (e .second) (e .quad) (e .intended) ∙ h .first;
+      other = two-length (s .two) (e .writes) (e .second) (e .quad) (e .intended) ∙ h .other;
+    })
     (λ off. h)
 transition-sound g s (reset sram kind mask) w h =
     by-reset g s sram kind mask (λ a. Sound g (left a))
     (λ on.
-      record {
-        possible = reset-possible g (s .device) (h .possible) kind _;
-        first = torn-length g s sram mask .0 ∙ h .first;
-        other = torn-length g s sram mask .1 ∙ h .other;
-      })
+    record {
+      possible = reset-possible g (s .device) (h .possible) kind _;
+      first = torn-length g s sram mask .0 ∙ h .first;
+      other = torn-length g s sram mask .1 ∙ h .other;
+    })
     (λ off. h)
 
 pub run-sound : (g : Geometry) (s : State) → Sound g s → (l : List Operation) → BringWords l → Sound g (runOf g s l)
@@ -207,26 +208,26 @@ pub one-quad : (g : Geometry) (s : State) (sram : List ℕ) → OneQuad g s (tra
 one-quad g s sram =
     by-step g s sram (λ a. OneQuad g s (left a))
     (λ on.
-      let e = effectOf g (s .device) (s .one) (s .two) sram in
-      let q = effect-quad g (s .device) (s .one) (s .two) sram in
-      record {
-        one-word = λ v out. one-other (s .one) (e .writes) (e .second) (e .quad) (e .intended) v (rw q out);
-        two-word = λ v out. two-other (s .two) (e .writes) (e .second) (e .quad) (e .intended) v (rw q out);
-      })
+    let e = effectOf g (s .device) (s .one) (s .two) sram in
+    let q = effect-quad g (s .device) (s .one) (s .two) sram in
+    record {
+      one-word = λ v out. one-other (s .one) (e .writes) (e .second) (e .quad) (e .intended) v (rw q out);
+      two-word = λ v out. two-other (s .two) (e .writes) (e .second) (e .quad) (e .intended) v (rw q out);
+    })
     (λ off. record { one-word = λ v out. refl; two-word = λ v out. refl })
 
 pub one-quad-torn : (g : Geometry) (s : State) (sram : List ℕ) (kind : ℕ) (mask : List ℕ) → OneQuad g s (transitionOf g s (reset sram kind mask))
 one-quad-torn g s sram kind mask =
     by-reset g s sram kind mask (λ a. OneQuad g s (left a))
     (λ on.
-      let e = effectOf g (s .device) (s .one) (s .two) sram in
-      let q = effect-quad g (s .device) (s .one) (s .two) sram in
-      record {
-        one-word = λ v out.
-            pick-both (λ (l : List ℕ). wordAt l v ≡ wordAt (s .one) v) (running (s .device))
-            (one-other (s .one) (e .writes) (e .second) (e .quad) (tornQuadOf e mask (s .one) (s .two)) v (rw q out)) refl;
-        two-word = λ v out.
-            pick-both (λ (l : List ℕ). wordAt l v ≡ wordAt (s .two) v) (running (s .device))
-            (two-other (s .two) (e .writes) (e .second) (e .quad) (tornQuadOf e mask (s .one) (s .two)) v (rw q out)) refl;
-      })
+    let e = effectOf g (s .device) (s .one) (s .two) sram in
+    let q = effect-quad g (s .device) (s .one) (s .two) sram in
+    record {
+      one-word = λ v out.
+          pick-both (λ (l : List ℕ). wordAt l v ≡ wordAt (s .one) v) (running (s .device))
+          (one-other (s .one) (e .writes) (e .second) (e .quad) (tornQuadOf e mask (s .one) (s .two)) v (rw q out)) refl;
+      two-word = λ v out.
+          pick-both (λ (l : List ℕ). wordAt l v ≡ wordAt (s .two) v) (running (s .device))
+          (two-other (s .two) (e .writes) (e .second) (e .quad) (tornQuadOf e mask (s .one) (s .two)) v (rw q out)) refl;
+    })
     (λ off. record { one-word = λ v out. refl; two-word = λ v out. refl })

@@ -94,7 +94,7 @@ pub record OneQuad (g : Geometry) (s t : State) : Type 0 where
 -- what holds of the controller
 pub record Controller : Type 1 where
   -- every list of operations, declined ones too, from a possible device leaves one, and banks of unchanged length
-  pub stays-sound : (g : Geometry) → inRangeOf g ≡ true → (s : State) → Sound g s → (l : List Operation) → BringWords l → Sound g (runOf g s l)
+  pub stays-sound : (g : Geometry) (s : State) → Sound g s → (l : List Operation) → BringWords l → Sound g (runOf g s l)
   -- so from power-on
   pub power-on : (g : Geometry) (one two : List ℕ) → length one ≡ bankWordsOf g → length two ≡ bankWordsOf g → Sound g (state powerOn one two)
   -- a declined operation changes nothing

@@ -63,9 +63,11 @@ pub fn step_location(g: Geometry, d: Device) -> Location
     }
     let region = 8 * g.q * g.p;
     if step < region {
-        return inside(true, false, 16 * step);
+        let lower = 16 * step;
+        return inside(true, false, lower);
     }
-    inside(true, true, 16 * (step - region))
+    let upper = 16 * (step - region);
+    inside(true, true, upper)
 }
 
 // Whether that quad is in a protected boot page.

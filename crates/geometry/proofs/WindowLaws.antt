@@ -124,10 +124,10 @@ module _ (g : Geometry) (ok : InRange g) where
   page-end true x h = omega (arith, mul-le-mul (div-lt-iff-lt-mul (page-pos g ok) .1 h) (le-refl (pageBytesOf g)), suc-mul (x / pageBytesOf g) (pageBytesOf g))
   page-end false x h = omega (arith, mul-le-mul (div-lt-iff-lt-mul (page-pos g ok) .1 h) (le-refl (pageBytesOf g)), suc-mul (x / pageBytesOf g) (pageBytesOf g))
 
-  -- a quad, row or page that was rounded to lies whole in its window
-  pub unit-room : (u m : ℕ) → Unit g u m → (b : ℕ) → locateOf g (roundDownOf b u) .inside ≡ true
-      → let l = locateOf g (roundDownOf b u) in l .offset + u ≤ windowBytesOf g (l .program)
-  unit-room u m unit b h =
+  -- the offset of an address that was rounded to a quad, row or page is rounded too
+  pub unit-kept : (u m : ℕ) → Unit g u m → (b : ℕ) → locateOf g (roundDownOf b u) .inside ≡ true
+      → let l = locateOf g (roundDownOf b u) in roundDownOf (l .offset) u ≡ l .offset
+  unit-kept u m unit b h =
       let l = locateOf g (roundDownOf b u) in
       let s : Stands g (roundDownOf b u) l = stands (roundDownOf b u) h in
       let again : roundDownOf (roundDownOf b u) u ≡ roundDownOf b u = ap (λ (x : ℕ). x * u) (mul-div-cancel (b / u) (unit .some)) in
@@ -135,8 +135,15 @@ module _ (g : Geometry) (ok : InRange g) where
       round-start u m unit (l .program) (l .upper) (l .offset) in
       let same : windowStartOf g (l .program) (l .upper) + roundDownOf (l .offset) u ≡ windowStartOf g (l .program) (l .upper) + l .offset =
       sym moved ∙ ap (λ (x : ℕ). roundDownOf x u) (sym (s .address)) ∙ again ∙ s .address in
-      let kept : roundDownOf (l .offset) u ≡ l .offset = omega (arith, same) in
-      le-trans (rw kept at (unit-in-page g ok u m unit (l .offset))) (page-end (l .program) (l .offset) (s .room))
+      omega (arith, same)
+
+  -- such a quad, row or page lies whole in its window
+  pub unit-room : (u m : ℕ) → Unit g u m → (b : ℕ) → locateOf g (roundDownOf b u) .inside ≡ true
+      → let l = locateOf g (roundDownOf b u) in l .offset + u ≤ windowBytesOf g (l .program)
+  unit-room u m unit b h =
+      let l = locateOf g (roundDownOf b u) in
+      le-trans (rw (unit-kept u m unit b h) at (unit-in-page g ok u m unit (l .offset)))
+      (page-end (l .program) (l .offset) (stands (roundDownOf b u) h .room))
 
   -- ---- what stands in a window lies in its bank
   module _ (l : Location) (room : l .offset < windowBytesOf g (l .program)) where
