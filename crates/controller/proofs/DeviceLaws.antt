@@ -21,8 +21,8 @@ use Rattle.device.specs.Record.{powerOn, withCon, running, bfswap, opOf}
 use Rattle.device.specs.Operation.{beginsOf, lengthOf}
 use Rattle.device.specs.Possible.{runningOf, possibleOf}
 use Rattle.device.proofs.PossibleLaws.{Implemented, Possible, possible, possible-test, same-rows}
-use Rattle.controller.specs.declared.step.Advanced.{Advanced}
-use Rattle.controller.specs.Step.{advanced, advanceOf}
+use Rattle.flash.specs.declared.step.Advanced.{Advanced}
+use Rattle.flash.specs.Step.{advanced, advanceOf}
 use Rattle.controller.specs.Reset.{resetConOf, resetDeviceOf}
 
 -- ---- a step

@@ -1,4 +1,3 @@
-pub mod EffectLaws
 pub mod AcceptedLaws
 pub mod PartsLaws
 pub mod DeviceLaws

@@ -5,7 +5,7 @@ use Rattle.device.specs.Record.{registerOf}
 use Rattle.device.specs.Registers.{withinOf}
 use Rattle.device.specs.Possible.{implementedOf, possibleOf}
 use Rattle.controller.specs.Machine.{Controller}
-use Rattle.controller.proofs.AcceptedLaws.{runs}
+use Rattle.flash.proofs.AcceptedLaws.{runs}
 use Rattle.controller.proofs.DeviceLaws.{power-on-possible}
 use Rattle.controller.proofs.MachineLaws.{run-sound, declined-same, compared, one-quad, one-quad-torn}
 use Rattle.controller.proofs.ProtectionLaws.{unprotected}

@@ -25,14 +25,15 @@ use Rattle.device.specs.Fields.{wantedOf}
 use Rattle.device.specs.Possible.{possibleOf}
 use Rattle.device.specs.Store.{storeDeclineOf, storeAcceptedOf, storeOf, readDeclineOf, registerReadOf}
 use Rattle.device.proofs.StoreLaws.{store-possible, read-leaves-possible}
-use Rattle.controller.specs.declared.effect.Effect.{Effect}
-use Rattle.controller.specs.Effect.{stepLocationOf, effectOf}
-use Rattle.controller.specs.Step.{After, after, stepDeclineOf, advanceOf, oneAfter, twoAfter, stepAcceptedOf, stepOf}
+use Rattle.flash.specs.declared.effect.Effect.{Effect}
+use Rattle.flash.specs.Effect.{stepLocationOf, effectOf}
+use Rattle.flash.specs.Step.{After, after, stepDeclineOf, advanceOf, oneAfter, twoAfter, stepAcceptedOf, stepOf}
 use Rattle.controller.specs.Reset.{resetDeclineOf, tornQuadOf, oneTornOf, twoTornOf, comparedOf, restartOf, resetOf}
 use Rattle.controller.specs.Machine.{Operation, State, state, left, answerOf, transitionOf, runOf, BringsWord, BringWords, Sound, Outside, OneQuad}
 use Rattle.controller.specs.Machine.Operation.{store, registerRead, flashRead, step, reset}
-use Rattle.controller.proofs.EffectLaws.{effect-quad}
-use Rattle.controller.proofs.AcceptedLaws.{step-ready, reset-ready}
+use Rattle.flash.proofs.EffectLaws.{effect-quad}
+use Rattle.flash.proofs.AcceptedLaws.{step-ready}
+use Rattle.controller.proofs.AcceptedLaws.{reset-ready}
 use Rattle.controller.proofs.DeviceLaws.{advance-possible, reset-possible, reset-swap}
 
 -- ---- a write of one quad of one bank

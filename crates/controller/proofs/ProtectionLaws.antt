@@ -24,9 +24,9 @@ use Rattle.device.specs.declared.record.Device.{Device}
 use Rattle.device.specs.Record.{opOf, bfswap, pfswap}
 use Rattle.device.specs.Protection.{pwpOf, programProtectedOf, pageOffsetOf, bootProtectedOf, protectedOf, anyProtectedOf}
 use Rattle.device.specs.Operation.{unitOf, targetOf, pageProtectedOf, targetBeginsOf, regionBeginsOf, beginsAtOf, lengthOf}
-use Rattle.controller.specs.declared.effect.Effect.{Effect}
-use Rattle.controller.specs.Effect.{Runs, regionSteps, stepAtOf, stepLocationOf, blockedOf, oldQuadOf, effect, effectAtOf, effectOf}
-use Rattle.controller.proofs.EffectLaws.{begins-inside, none-above, runs-room, step-room, Room}
+use Rattle.flash.specs.declared.effect.Effect.{Effect}
+use Rattle.flash.specs.Effect.{Runs, regionSteps, stepAtOf, stepLocationOf, blockedOf, oldQuadOf, effect, effectAtOf, effectOf}
+use Rattle.flash.proofs.EffectLaws.{begins-inside, none-above, runs-room, step-room, Room}
 
 module _ (g : Geometry) (ok : InRange g) (pwp : ℕ) where
   -- the program page of a place is not protected

@@ -1,6 +1,3 @@
-pub mod Lengths
-pub mod Effect
-pub mod Step
 pub mod Reset
 pub mod Read
 pub mod Parts

@@ -18,8 +18,8 @@ use Rattle.device.specs.Record.{registerOf, powerOn, running, bfswap}
 use Rattle.device.specs.Protection.{protectedOf}
 use Rattle.device.specs.Possible.{possibleOf}
 use Rattle.device.specs.Store.{storeOf, registerReadOf}
-use Rattle.controller.specs.Effect.{stepLocationOf, effectOf}
-use Rattle.controller.specs.Step.{After, stepOf}
+use Rattle.flash.specs.Effect.{stepLocationOf, effectOf}
+use Rattle.flash.specs.Step.{After, stepOf}
 use Rattle.controller.specs.Reset.{comparedOf, resetOf}
 use Rattle.controller.specs.Read.{secondAtOf, flashReadOf}
 

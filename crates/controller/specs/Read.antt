@@ -16,8 +16,8 @@ use Rattle.device.specs.declared.record.Device.{Device}
 use Rattle.device.specs.Record.{running, bfswap, pfswap, opOf}
 use Rattle.device.specs.Possible.{possibleOf}
 use Rattle.controller.specs.declared.read.FlashRead.{FlashRead}
-use Rattle.controller.specs.Lengths.{lengthsFitOf}
-use Rattle.controller.specs.Effect.{stepLocationOf}
+use Rattle.flash.specs.Lengths.{lengthsFitOf}
+use Rattle.flash.specs.Effect.{stepLocationOf}
 
 -- the bank that stands at a place, by the device's swap bits: whether it is bank 2
 abbrev pub secondAtOf : Device → Location → Bool

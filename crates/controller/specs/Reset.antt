@@ -16,10 +16,10 @@ use Rattle.device.specs.declared.record.Device.{Device}
 use Rattle.device.specs.Registers.{WR, WREN, LVDERR, PFSWAP, BFSWAP, NVMERS, resets}
 use Rattle.device.specs.Record.{powerOn, withCon, running}
 use Rattle.device.specs.Possible.{possibleOf}
-use Rattle.controller.specs.declared.effect.Effect.{Effect}
-use Rattle.controller.specs.Lengths.{lengthsFitOf}
-use Rattle.controller.specs.Effect.{oldQuadOf, effectOf}
-use Rattle.controller.specs.Step.{After, after, oneAfter, twoAfter}
+use Rattle.flash.specs.declared.effect.Effect.{Effect}
+use Rattle.flash.specs.Lengths.{lengthsFitOf}
+use Rattle.flash.specs.Effect.{oldQuadOf, effectOf}
+use Rattle.flash.specs.Step.{After, after, oneAfter, twoAfter}
 
 -- declines 1, 2, 3 and 7
 unfoldable pub resetDeclineOf : Geometry → Device → ℕ → ℕ → ℕ → ℕ → Decline

@@ -1,7 +1,4 @@
-// The controller over two lent banks: flash steps, resets, flash reads, parts handed back.
-pub mod effect;
-pub mod lengths;
+// The controller over two lent banks: resets, flash reads, parts handed back, and what holds of every list of operations.
 pub mod parts;
 pub mod read;
 pub mod reset;
-pub mod step;

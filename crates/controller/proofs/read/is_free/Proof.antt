@@ -3,7 +3,7 @@ use borrow.Author.Tests.{eq-eqb, ne-eqb, not-true, not-false}
 use mathlib.Core.Path.{sym, _∙_}
 use borrow.Author.Needs.{needs}
 use Rattle.controller.specs.Read.{freeOf, same}
-use Rattle.controller.proofs.AcceptedLaws.{runs}
+use Rattle.flash.proofs.AcceptedLaws.{runs}
 use mathlib.Core.Path.{_≡_, refl, ap}
 use Prim.Native.Nat.{ℕ}
 use lib.Dec.{eqb}

@@ -4,8 +4,8 @@ use mathlib.Core.Path.{sym, _∙_, refl}
 use borrow.Author.Needs.{needs}
 use native.Mathlib.Omega.{arith}
 use mathlib.Core.Path.{refl}
-use Rattle.controller.proofs.EffectLaws.{effect-in-bank}
-use Rattle.controller.proofs.AcceptedLaws.{runs}
+use Rattle.flash.proofs.EffectLaws.{effect-in-bank}
+use Rattle.flash.proofs.AcceptedLaws.{runs}
 use Rattle.controller.proofs.reset.tear.Statement.{statement}
 use Rattle.controller.proofs.reset.tear.Tie as tie
 

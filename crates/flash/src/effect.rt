@@ -1,0 +1,175 @@
+// What the next step of a running operation does: a step carries it out, and a reset tears it.
+ghost use mathlib.Core.Path.{_≡_};
+ghost use Prim.Native.Nat.{_+_, _*_, _≤_};
+ghost use lib.ListN.{length};
+ghost use Rattle.words.specs.Word.{pick};
+ghost use Rattle.words.specs.Quad.{putQuad};
+ghost use Rattle.geometry.specs.Banks.{InRange, bankWordsOf};
+ghost use Rattle.geometry.specs.Windows.{windowBytesOf, located};
+ghost use Rattle.device.specs.Record.{opOf};
+ghost use Rattle.flash.specs.Effect.{Runs, stepLocationOf, blockedOf, sourceFitsOf, sourceWordOf, oldQuadOf, effect, effectAtOf, effectOf};
+use device::operation::op;
+use device::operation::target;
+use device::protection::is_boot_protected;
+use device::record::Device;
+use device::registers::Nvmcon;
+use geometry::banks::Geometry;
+use geometry::windows::Location;
+use geometry::windows::in_second;
+use geometry::windows::page;
+use geometry::windows::quad_index;
+use words::quad::is_blank;
+use words::quad::put_quad;
+use words::quad::quad_at;
+use words::quad::quad_from;
+use words::word::has;
+
+// Whether the step aborts, or else whether it writes; the bank and the quad that it works on; what it intends to write.
+pub struct Effect {
+    pub aborts: bool,
+    pub writes: bool,
+    pub second: bool,
+    pub quad: u32,
+    pub intended: [u32; 4],
+}
+
+fn inside(program: bool, upper: bool, offset: u32) -> Location
+    ensures { λ r. ⌜ r ≡ located program upper offset ⌝ }
+{
+    Location {
+        inside: true,
+        program,
+        upper,
+        offset,
+    }
+}
+
+// Where the quad of the next step stands.
+pub fn step_location(g: Geometry, d: Device) -> Location
+    requires { ⌜ Runs g d ⌝ }
+    ensures { λ r. ⌜ r ≡ stepLocationOf g d ⌝ }
+{
+    let op = op(d);
+    let step = d.step;
+    if op < 5 {
+        let t = target(g, d);
+        return inside(t.program, t.upper, t.offset + 16 * step);
+    }
+    if op == 5 {
+        return inside(true, false, 16 * step);
+    }
+    if op == 6 {
+        return inside(true, true, 16 * step);
+    }
+    let region = 8 * g.q * g.p;
+    if step < region {
+        let lower = 16 * step;
+        return inside(true, false, lower);
+    }
+    let upper = 16 * (step - region);
+    inside(true, true, upper)
+}
+
+// Whether that quad is in a protected boot page.
+fn is_blocked(g: Geometry, d: Device, l: Location) -> bool
+    requires { ⌜ InRange g ⌝ }
+    requires { ⌜ l .offset + 16 ≤ windowBytesOf g (l .program) ⌝ }
+    ensures { λ r. ⌜ r ≡ blockedOf g d l ⌝ }
+{
+    if l.program {
+        return false;
+    }
+    is_boot_protected(d, l.upper, page(g, l))
+}
+
+// The word of the SRAM at which the data of a row's next quad begins.
+fn source_word(d: Device) -> usize
+    ensures { λ r. ⌜ r ≡ sourceWordOf d ⌝ }
+{
+    (d.nvmsrcaddr as usize + 16 * (d.step as usize)) / 4
+}
+
+// Whether a row's data is aligned and lies in the SRAM.
+fn source_fits(d: Device, sram: usize) -> bool
+    ensures { λ r. ⌜ r ≡ sourceFitsOf d sram ⌝ }
+{
+    if d.nvmsrcaddr % 4 != 0 {
+        return false;
+    }
+    source_word(d) + 4 <= sram
+}
+
+// A quad as it is before the step.
+pub fn old_quad(one: &[u32], two: &[u32], second: bool, quad: u32) -> [u32; 4]
+    requires { ⌜ (4 * quad + 4 ≤ length (now one)) × (4 * quad + 4 ≤ length (now two)) ⌝ }
+    ensures { λ r. ⌜ r ≡ oldQuadOf (now (one .entry)) (now (two .entry)) second quad ⌝ }
+{
+    if second {
+        return quad_at(two, quad as usize);
+    }
+    quad_at(one, quad as usize)
+}
+
+// What the next step does to a quad that is not in a protected boot page.
+fn effect_at(d: Device, sram: &[u32], second: bool, quad: u32, old: [u32; 4]) -> Effect
+    ensures { λ r. ⌜ r ≡ effectAtOf d (now (sram .entry)) second quad old ⌝ }
+{
+    let blank = [0xFFFF_FFFF; 4];
+    let op = op(d);
+    if 3 < op {
+        return doing(false, true, second, quad, blank);
+    }
+    if !is_blank(old) {
+        return doing(true, false, second, quad, blank);
+    }
+    if op == 2 {
+        let data = d.nvmdata;
+        return doing(false, true, second, quad, data);
+    }
+    if !source_fits(d, sram.len()) {
+        return doing(true, false, second, quad, blank);
+    }
+    let row = quad_from(sram, source_word(d));
+    doing(false, true, second, quad, row)
+}
+
+fn doing(aborts: bool, writes: bool, second: bool, quad: u32, intended: [u32; 4]) -> Effect
+    ensures { λ r. ⌜ r ≡ effect aborts writes second quad intended ⌝ }
+{
+    Effect {
+        aborts,
+        writes,
+        second,
+        quad,
+        intended,
+    }
+}
+
+// What the next step of the running operation does.
+pub fn next_effect(g: Geometry, d: Device, one: &[u32], two: &[u32], sram: &[u32]) -> Effect
+    requires { ⌜ Runs g d ⌝ }
+    requires { ⌜ (length (now one) ≡ bankWordsOf g) × (length (now two) ≡ bankWordsOf g) ⌝ }
+    ensures { λ r. ⌜ r ≡ effectOf g d (now (one .entry)) (now (two .entry)) (now (sram .entry)) ⌝ }
+{
+    let l = step_location(g, d);
+    let bfswap = has(d.nvmcon.0, Nvmcon::BFSWAP);
+    let pfswap = has(d.nvmcon.0, Nvmcon::PFSWAP);
+    let second = in_second(l, bfswap, pfswap);
+    let quad = quad_index(g, l);
+    if is_blocked(g, d, l) {
+        return doing(false, false, second, quad, [0xFFFF_FFFF; 4]);
+    }
+    effect_at(d, sram, second, quad, old_quad(one, two, second, quad))
+}
+
+// Writes a quad of one of the two banks.
+pub fn write(one: &mut [u32], two: &mut [u32], second: bool, quad: u32, words: [u32; 4])
+    requires { ⌜ (4 * quad + 4 ≤ length (now one)) × (4 * quad + 4 ≤ length (now two)) ⌝ }
+    ensures { λ _. ⌜ (now (one .exit) ≡ pick second (now (one .entry)) (putQuad (now (one .entry)) quad words)) × (now (two .exit) ≡ pick second (putQuad (now (two .entry)) quad words) (now (two .entry))) ⌝ }
+{
+    if second {
+        put_quad(two, quad as usize, words);
+        return;
+    }
+    put_quad(one, quad as usize, words);
+}
