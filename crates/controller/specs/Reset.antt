@@ -18,7 +18,7 @@ use Rattle.device.specs.Record.{powerOn, withCon, running}
 use Rattle.device.specs.Possible.{possibleOf}
 use Rattle.flash.specs.declared.effect.Effect.{Effect}
 use Rattle.flash.specs.Lengths.{lengthsFitOf}
-use Rattle.flash.specs.Effect.{oldQuadOf, effectOf}
+use Rattle.flash.specs.Effect.{oldQuadOf, effect, effectOf}
 use Rattle.flash.specs.Step.{After, after, oneAfter, twoAfter}
 
 -- declines 1, 2, 3 and 7
@@ -35,6 +35,10 @@ resetDeclineOf g d one two sram kind =
 -- "the four words of the torn mask choose, bit by bit, intended (1) or old (0)"
 abbrev pub tornQuadOf : Effect → List ℕ → List ℕ → List ℕ → List ℕ
 tornQuadOf e mask one two = mergeQuadOf mask (e .intended) (oldQuadOf one two (e .second) (e .quad))
+
+-- the step as the cut leaves it
+abbrev pub tornEffectOf : Effect → List ℕ → List ℕ → List ℕ → Effect
+tornEffectOf e mask one two = effect (e .aborts) (e .writes) (e .second) (e .quad) (tornQuadOf e mask one two)
 
 -- "With WR = 1 a reset first tears the quad of the next step"; "A step that would abort or hit a protected page tears
 -- nothing." Bank 1 and bank 2 after it

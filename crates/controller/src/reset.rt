@@ -7,14 +7,16 @@ ghost use Rattle.device.specs.Registers.{BFSWAP};
 ghost use lib.ListN.{length};
 ghost use Rattle.geometry.specs.Banks.{InRange, bankWordsOf};
 ghost use Rattle.device.specs.Possible.{possibleOf};
+ghost use Rattle.flash.specs.Effect.{Runs, effectOf};
 ghost use Rattle.flash.specs.Step.{after};
-ghost use Rattle.controller.specs.Reset.{resetDeclineOf, oneTornOf, twoTornOf, comparedOf, resetConOf, resetDeviceOf, resetOf};
+ghost use Rattle.controller.specs.Reset.{resetDeclineOf, tornEffectOf, oneTornOf, twoTornOf, comparedOf, resetConOf, resetDeviceOf, resetOf};
 use device::possible::is_possible;
 use device::record::Device;
 use device::record::power_on;
 use device::registers::Nvmcon;
 use device::registers::Nvmcon2;
 use device::registers::reset_value;
+use flash::effect::Effect;
 use flash::effect::next_effect;
 use flash::effect::old_quad;
 use flash::lengths::lengths_fit;
@@ -53,6 +55,27 @@ fn reset_decline(g: Geometry, d: Device, one: usize, two: usize, sram: usize, ki
     Decline::Accepted
 }
 
+// The next step as a cut tears it: its quad with the words that are left.
+fn torn_effect(
+    g: Geometry,
+    d: Device,
+    one: &[u32],
+    two: &[u32],
+    sram: &[u32],
+    mask: [u32; 4],
+) -> Effect
+    requires { ⌜ Runs g d ⌝ }
+    requires { ⌜ (length (now one) ≡ bankWordsOf g) × (length (now two) ≡ bankWordsOf g) ⌝ }
+    ensures { λ r. ⌜ r ≡ tornEffectOf (effectOf g d (now (one .entry)) (now (two .entry)) (now (sram .entry))) mask (now (one .entry)) (now (two .entry)) ⌝ }
+{
+    let mut e = next_effect(g, d, one, two, sram);
+    let intended = e.intended;
+    let old = old_quad(one, two, e.second, e.quad);
+    let torn = merge_quad(mask, intended, old);
+    e.intended = torn;
+    e
+}
+
 // Tears the quad of the next step where an operation runs.
 fn tear(g: Geometry, d: Device, one: &mut [u32], two: &mut [u32], sram: &[u32], mask: [u32; 4])
     requires { ⌜ InRange g ⌝ }
@@ -63,11 +86,9 @@ fn tear(g: Geometry, d: Device, one: &mut [u32], two: &mut [u32], sram: &[u32], 
     if !has(d.nvmcon.0, Nvmcon::WR) {
         return;
     }
-    let e = next_effect(g, d, one, two, sram);
-    let intended = e.intended;
-    let old = old_quad(one, two, e.second, e.quad);
-    let torn = merge_quad(mask, intended, old);
-    apply(one, two, e.writes, e.second, e.quad, torn);
+    let e = torn_effect(g, d, one, two, sram, mask);
+    let words = e.intended;
+    apply(one, two, e.writes, e.second, e.quad, words);
 }
 
 // BFSWAP by the comparison of the two banks.
