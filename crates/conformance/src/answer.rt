@@ -5,7 +5,7 @@ ghost use Prim.Native.Nat.{_+_, _<_};
 // The numbers of an answer; none where the line is no case.
 pub struct Answer {
     pub count: usize,
-    pub words: [u32; 20],
+    pub words: [u32; 32],
 }
 
 impl Answer {
@@ -14,13 +14,13 @@ impl Answer {
     {
         Answer {
             count: 0,
-            words: [0; 20],
+            words: [0; 32],
         }
     }
 
     // The answer with one more number. Callers show that there is room.
     pub fn with(mut self, word: u32) -> Answer
-        requires { ⌜ self .count < 20 ⌝ }
+        requires { ⌜ self .count < 32 ⌝ }
         ensures { λ r. ⌜ r .count ≡ self .count + 1 ⌝ }
     {
         let at = self.count;
@@ -31,7 +31,7 @@ impl Answer {
 
     // The answer with 1 or 0 after it.
     pub fn with_flag(self, flag: bool) -> Answer
-        requires { ⌜ self .count < 20 ⌝ }
+        requires { ⌜ self .count < 32 ⌝ }
         ensures { λ r. ⌜ r .count ≡ self .count + 1 ⌝ }
     {
         if flag {

@@ -4,7 +4,6 @@ ghost use lib.Dec.{eqb};
 ghost use Rattle.words.specs.Word.{pick};
 use crate::answer::Answer;
 use crate::names::Call;
-use crate::numbers::take;
 use crate::records::device_of;
 use crate::records::geometry_of;
 use crate::records::with_device;
@@ -109,33 +108,10 @@ fn start_up_answer(words: [u32; 20]) -> Answer
     with_device(first, given.device)
 }
 
-// How many numbers a call takes.
-fn count_of(call: Call) -> usize
-    ensures { λ r. ⌜ r ≤ 20 ⌝ }
-{
-    match call {
-        Call::Compare => 2,
-        Call::Possible => 16,
-        Call::Protected => 19,
-        Call::Store => 19,
-        Call::RegisterRead => 17,
-        Call::StartUp => 16,
-        Call::Unknown => 0,
-    }
-}
-
-// What a call gives for the numbers from a position to the line's end.
-pub fn call_answer(call: Call, line: &[u8], at: usize) -> Answer
+// What a call that lends no list gives for its numbers.
+pub fn device_answer(call: Call, words: [u32; 20]) -> Answer
     ensures { λ r. ⌜ r .count ≤ 20 ⌝ }
 {
-    let taken = take(line, at, count_of(call));
-    if !taken.is_right {
-        return Answer::no_case();
-    }
-    if taken.next != line.len() {
-        return Answer::no_case();
-    }
-    let words = taken.words;
     match call {
         Call::Compare => compare_answer(words),
         Call::Possible => possible_answer(words),
@@ -143,6 +119,6 @@ pub fn call_answer(call: Call, line: &[u8], at: usize) -> Answer
         Call::Store => store_answer(words),
         Call::RegisterRead => register_read_answer(words),
         Call::StartUp => start_up_answer(words),
-        Call::Unknown => Answer::no_case(),
+        _ => Answer::no_case(),
     }
 }

@@ -4,7 +4,7 @@ ghost use lib.ListN.{length};
 ghost use Rattle.io.specs.Counts.{Counts};
 use crate::answer::Answer;
 use crate::bytes::find;
-use crate::device_calls::call_answer;
+use crate::calls::call_answer;
 use crate::input::fill;
 use crate::input::keep;
 use crate::input::make_room;
@@ -39,17 +39,23 @@ fn inputs_end(line: &[u8]) -> usize
 }
 
 // What the line of a case gives.
-fn answer(line: &[u8]) -> Answer
-    ensures { λ r. ⌜ r .count ≤ 20 ⌝ }
+fn answer(line: &[u8], one: &mut [u32], two: &mut [u32], spare: &mut [u32]) -> Answer
+    ensures { λ r. ⌜ r .count ≤ 32 ⌝ }
 {
     let end = inputs_end(line);
     let inputs = &line[..end];
     let after = find(inputs, 0, b' ');
-    call_answer(Call::of(&inputs[..after]), inputs, after)
+    call_answer(Call::of(&inputs[..after]), inputs, after, one, two, spare)
 }
 
 // Answers each line that has its line feed.
-fn answer_lines(held: &[u8], out: &mut [u8]) -> Answered
+fn answer_lines(
+    held: &[u8],
+    out: &mut [u8],
+    one: &mut [u32],
+    two: &mut [u32],
+    spare: &mut [u32],
+) -> Answered
     requires { ⌜ 0 < length (now out) ⌝ }
     ensures { λ r. ⌜ (r .start ≤ length (now (held .entry))) × (r .used ≤ length (now (out .exit))) ⌝ }
 {
@@ -60,14 +66,22 @@ fn answer_lines(held: &[u8], out: &mut [u8]) -> Answered
         if held.len() <= end {
             break;
         }
-        used = put_answer(out, used, answer(&held[start..end]));
+        let given = answer(&held[start..end], one, two, spare);
+        used = put_answer(out, used, given);
         start = end + 1;
     }
     Answered { start, used }
 }
 
 // Reads once, and answers what is whole then.
-fn turn(buffer: &mut [u8], out: &mut [u8], held: usize) -> Progress
+fn turn(
+    buffer: &mut [u8],
+    out: &mut [u8],
+    one: &mut [u32],
+    two: &mut [u32],
+    spare: &mut [u32],
+    held: usize,
+) -> Progress
     requires { ⌜ (held ≤ length (now buffer)) × (0 < length (now out)) ⌝ }
     ensures { λ r. ⌜ r .held ≤ length (now (buffer .exit)) ⌝ }
 {
@@ -75,7 +89,7 @@ fn turn(buffer: &mut [u8], out: &mut [u8], held: usize) -> Progress
     if filled <= held {
         return Progress { is_end: true, held };
     }
-    let answered = answer_lines(&buffer[..filled], out);
+    let answered = answer_lines(&buffer[..filled], out, one, two, spare);
     flush(out, answered.used);
     let rest = keep(buffer, answered.start, filled);
     Progress {
@@ -86,14 +100,20 @@ fn turn(buffer: &mut [u8], out: &mut [u8], held: usize) -> Progress
 
 // A proved loop has to end, and nothing says that the input does. So it counts its turns down, from a number that no
 // run uses up.
-fn answer_whole(buffer: &mut [u8], out: &mut [u8]) -> usize
+fn answer_whole(
+    buffer: &mut [u8],
+    out: &mut [u8],
+    one: &mut [u32],
+    two: &mut [u32],
+    spare: &mut [u32],
+) -> usize
     requires { ⌜ 0 < length (now out) ⌝ }
     ensures { λ r. ⌜ r ≤ length (now (buffer .exit)) ⌝ }
 {
     let mut held = 0;
     let mut turns = u64::MAX;
     while 0 < turns {
-        let progress = turn(buffer, out, held);
+        let progress = turn(buffer, out, one, two, spare, held);
         held = progress.held;
         if progress.is_end {
             return held;
@@ -104,12 +124,19 @@ fn answer_whole(buffer: &mut [u8], out: &mut [u8]) -> usize
 }
 
 // Answers every line of the input; the last one may lack its line feed.
-pub fn answer_all(buffer: &mut [u8], out: &mut [u8])
+pub fn answer_all(
+    buffer: &mut [u8],
+    out: &mut [u8],
+    one: &mut [u32],
+    two: &mut [u32],
+    spare: &mut [u32],
+)
     requires { ⌜ 0 < length (now out) ⌝ }
 {
-    let held = answer_whole(buffer, out);
+    let held = answer_whole(buffer, out, one, two, spare);
     if 0 < held {
-        let used = put_answer(out, 0, answer(&buffer[..held]));
+        let given = answer(&buffer[..held], one, two, spare);
+        let used = put_answer(out, 0, given);
         flush(out, used);
     }
 }

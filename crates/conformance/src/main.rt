@@ -1,9 +1,16 @@
 // Reads cases from standard input, one to a line, and writes what each call gives.
 mod answer;
+mod bank_calls;
 mod bytes;
+mod calls;
+mod cases;
+mod changes;
+mod changing_calls;
 mod device_calls;
+mod differences;
 mod input;
 mod lines;
+mod lists;
 mod names;
 mod numbers;
 mod output;
@@ -12,15 +19,27 @@ mod records;
 // The longest line that can be a case, with its line feed.
 const LONGEST_LINE: usize = 1048576;
 
+// The longest list that can be lent, in words. A bank has at most 282,624.
+const LONGEST_LIST: usize = 300000;
+
 const OUTPUT: usize = 8192;
 
 // Lends the arrays as slices. In main itself their lengths would have to be counted out element by element.
-fn run(buffer: &mut [u8; LONGEST_LINE], out: &mut [u8; OUTPUT]) {
-    lines::answer_all(buffer, out);
+fn run(
+    buffer: &mut [u8; LONGEST_LINE],
+    out: &mut [u8; OUTPUT],
+    one: &mut [u32; LONGEST_LIST],
+    two: &mut [u32; LONGEST_LIST],
+    spare: &mut [u32; LONGEST_LIST],
+) {
+    lines::answer_all(buffer, out, one, two, spare);
 }
 
 fn main() {
     let mut buffer = [0u8; LONGEST_LINE];
     let mut out = [0u8; OUTPUT];
-    run(&mut buffer, &mut out);
+    let mut one = [0u32; LONGEST_LIST];
+    let mut two = [0u32; LONGEST_LIST];
+    let mut spare = [0u32; LONGEST_LIST];
+    run(&mut buffer, &mut out, &mut one, &mut two, &mut spare);
 }

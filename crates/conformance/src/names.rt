@@ -1,4 +1,5 @@
-// The calls by their names.
+// The calls by their names, and what each takes.
+ghost use Prim.Native.Nat.{_≤_};
 use crate::bytes::same;
 
 pub enum Call {
@@ -7,8 +8,27 @@ pub enum Call {
     Protected,
     Store,
     RegisterRead,
+    FlashRead,
+    LowerBank,
+    Page,
+    Step,
+    Reset,
     StartUp,
     Unknown,
+}
+
+// How many numbers a call takes, how many lists after them, and how many numbers after those.
+pub struct Shape {
+    pub front: usize,
+    pub lists: usize,
+    pub back: usize,
+}
+
+fn taking(front: usize, lists: usize, back: usize) -> Shape
+    requires { ⌜ (front ≤ 20) × (back ≤ 20) ⌝ }
+    ensures { λ r. ⌜ (r .front ≤ 20) × (r .back ≤ 20) ⌝ }
+{
+    Shape { front, lists, back }
 }
 
 impl Call {
@@ -28,9 +48,44 @@ impl Call {
         if same(name, b"register_read") {
             return Call::RegisterRead;
         }
+        if same(name, b"flash_read") {
+            return Call::FlashRead;
+        }
+        if same(name, b"lower_bank") {
+            return Call::LowerBank;
+        }
+        if same(name, b"page") {
+            return Call::Page;
+        }
+        if same(name, b"step") {
+            return Call::Step;
+        }
+        if same(name, b"reset") {
+            return Call::Reset;
+        }
         if same(name, b"startup") {
             return Call::StartUp;
         }
         Call::Unknown
+    }
+
+    // G is three numbers and D thirteen.
+    pub fn shape(self) -> Shape
+        ensures { λ r. ⌜ (r .front ≤ 20) × (r .back ≤ 20) ⌝ }
+    {
+        match self {
+            Call::Compare => taking(2, 0, 0),
+            Call::Possible => taking(16, 0, 0),
+            Call::Protected => taking(19, 0, 0),
+            Call::Store => taking(19, 0, 0),
+            Call::RegisterRead => taking(17, 0, 0),
+            Call::FlashRead => taking(16, 2, 1),
+            Call::LowerBank => taking(16, 2, 0),
+            Call::Page => taking(3, 1, 1),
+            Call::Step => taking(16, 3, 0),
+            Call::Reset => taking(16, 3, 5),
+            Call::StartUp => taking(16, 0, 0),
+            Call::Unknown => taking(0, 0, 0),
+        }
     }
 }

@@ -1,4 +1,4 @@
--- The invariant: lines are answered up to a place within what is held, and the output buffer keeps its length. The measure is what is left.
+-- The invariant: lines are answered up to a place within what is held, and each buffer keeps its length. The measure is what is left.
 use Prim.Native.Nat.{_≤_, _-_}
 use mathlib.Core.Path.{_≡_}
 use native.Mathlib.Omega.{arith}
@@ -9,10 +9,16 @@ use Rattle.conformance.proofs.lines.answer_lines.Statement.{statement}
 use Rattle.conformance.proofs.lines.answer_lines.Tie as tie
 
 abbrev Inv-loop : tie.InvT-loop
-Inv-loop held out₀ start₀ used₀ out start used = (start ≤ length held) × (length out ≡ length out₀) × Used out used
+Inv-loop held out₀ one₀ two₀ spare₀ start₀ used₀ out one two spare start used =
+    (start ≤ length held)
+    × (length out ≡ length out₀)
+    × (length one ≡ length one₀)
+    × (length two ≡ length two₀)
+    × (length spare ≡ length spare₀)
+    × Used out used
 
 abbrev μ-loop : tie.MeasureT-loop
-μ-loop held out₀ start₀ used₀ out start used = length held - start
+μ-loop held out₀ one₀ two₀ spare₀ start₀ used₀ out one two spare start used = length held - start
 
 pub answer-lines-spec : {M : Type 1} → statement M
 answer-lines-spec =
@@ -21,16 +27,22 @@ answer-lines-spec =
     Inv-loop
     μ-loop
     (λ c. search needs)
-    (λ c κs. omega arith)
-    (λ c. omega arith)
-    (λ c. omega arith)
-    (λ c. omega arith)
-    (λ c κs. tt)
     (λ c κs. search needs)
-    (λ c. omega arith)
-    (λ c. omega arith)
     (λ c. search needs)
-    (λ c. omega arith)
     (λ c. search needs)
-    (λ c. omega arith)
+    (λ c. search needs)
+    (λ c κs. search needs)
+    (λ c κs. search needs)
+    (λ c. search needs)
+    (λ c. search needs)
+    (λ c. search needs)
+    (λ c. search needs)
+    (λ c. search needs)
+    (λ c. search needs)
+    (λ c. search needs)
+    (λ c. search needs)
+    (λ c. search needs)
+    (λ c. search needs)
+    (λ c. search needs)
+    (λ c. search needs)
     (λ c. search needs))

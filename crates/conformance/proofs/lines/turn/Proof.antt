@@ -8,8 +8,8 @@ use Rattle.conformance.proofs.lines.turn.Tie as tie
 
 keep-requires : tie.Need-keep-requires
 keep-requires c κs =
-    let filled = c .before .before .before .before .before .before .before .before .before .before .before .fill in
-    omega (arith, length-take-le (filled .result) (filled .last .0) (filled .ensures .1), filled .ensures)
+    let filled = c .before .before .before .before .before .before .before .before .before .before .before .before .before .before .before .before .before .before .before .before .fill in
+    omega (arith, length-take-le (filled .result) (filled .last .0) (filled .ensures .1), filled .ensures, c .before .before .before .before .before .before .before .before .before .before .before .answer-lines .ensures)
 
 pub turn-spec : {M : Type 1} → statement M
 turn-spec =
@@ -26,4 +26,9 @@ turn-spec =
     (λ c κs. search needs)
     (λ c. search needs)
     (λ c. search needs)
+    (λ c. search needs)
+    (λ c. search needs)
+    (λ c. search needs)
     (λ c. search needs))
+
+-- x

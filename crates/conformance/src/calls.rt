@@ -1,0 +1,81 @@
+// From a call's inputs to its answer.
+ghost use Prim.Native.Nat.{_≤_, _<_};
+ghost use lib.ListN.{length};
+ghost use Rattle.conformance.specs.Cases.{Lent};
+use crate::answer::Answer;
+use crate::bank_calls::flash_read_answer;
+use crate::bank_calls::lower_bank_answer;
+use crate::bank_calls::page_answer;
+use crate::cases::Case;
+use crate::cases::take_case;
+use crate::changing_calls::reset_answer;
+use crate::changing_calls::step_answer;
+use crate::device_calls::device_answer;
+use crate::names::Call;
+
+// What a call that changes no bank gives.
+fn still_answer<'a>(
+    call: Call,
+    front: [u32; 20],
+    one: &'a [u32],
+    two: &'a [u32],
+    last: u32,
+) -> Answer
+    requires { ⌜ length (now one) < 4294967296 ⌝ }
+    ensures { λ r. ⌜ r .count ≤ 20 ⌝ }
+{
+    match call {
+        Call::FlashRead => flash_read_answer(front, one, two, last),
+        Call::LowerBank => lower_bank_answer(front, one, two),
+        Call::Page => page_answer(front, one, last),
+        _ => device_answer(call, front),
+    }
+}
+
+// What a call gives for its inputs. The banks are cut to their lengths.
+fn case_answer(
+    call: Call,
+    line: &[u8],
+    case: Case,
+    one: &mut [u32],
+    two: &mut [u32],
+    spare: &mut [u32],
+) -> Answer
+    requires { ⌜ Lent (now one) (now two) (now spare) (case .sram) ⌝ }
+    ensures { λ r. ⌜ r .count ≤ 32 ⌝ }
+{
+    let front = case.front;
+    let back = case.back;
+    match call {
+        Call::Step => step_answer(line, case.lists, front, one, two, spare, case.sram),
+        Call::Reset => reset_answer(line, case.lists, front, back, one, two, spare, case.sram),
+        _ => still_answer(call, front, one, two, back[0]),
+    }
+}
+
+// What a call gives for the inputs from a position to the line's end.
+pub fn call_answer(
+    call: Call,
+    line: &[u8],
+    at: usize,
+    one: &mut [u32],
+    two: &mut [u32],
+    spare: &mut [u32],
+) -> Answer
+    ensures { λ r. ⌜ r .count ≤ 32 ⌝ }
+{
+    let case = take_case(line, at, call.shape(), one, two, spare);
+    if !case.is_right {
+        return Answer::no_case();
+    }
+    let first = case.one;
+    let second = case.two;
+    case_answer(
+        call,
+        line,
+        case,
+        &mut one[..first],
+        &mut two[..second],
+        spare,
+    )
+}
