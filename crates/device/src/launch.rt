@@ -1,4 +1,5 @@
 // The launch.
+// What asks for InRange here is no call of the device: its callers ask in_range first.
 ghost use mathlib.Core.Path.{_≡_};
 ghost use Rattle.geometry.specs.Banks.{InRange};
 ghost use Rattle.device.specs.Launch.{launchOf};

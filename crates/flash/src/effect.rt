@@ -1,4 +1,5 @@
 // What the next step of a running operation does: a step carries it out, and a reset tears it.
+// What asks for Runs, or for room in the banks, is no call of the device: its callers decide their decline first.
 ghost use mathlib.Core.Path.{_≡_};
 ghost use Prim.Native.Nat.{_+_, _*_, _≤_};
 ghost use lib.ListN.{length};

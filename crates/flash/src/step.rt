@@ -1,4 +1,5 @@
 // One step of the running operation.
+// What asks for Runs, or for room in the banks, is no call of the device: step decides its decline first.
 ghost use mathlib.Core.Path.{_≡_};
 ghost use Prim.Native.Nat.{_+_, _*_, _≤_};
 ghost use lib.ListN.{length};

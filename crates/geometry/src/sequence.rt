@@ -1,4 +1,5 @@
 // The sequence word of a bank: TSEQ, its low half, and CSEQ, its high half.
+// What asks for InRange here is no call of the device: its callers ask in_range first.
 ghost use mathlib.Core.Path.{_≡_};
 ghost use Prim.Native.Nat.{_<_};
 ghost use Rattle.geometry.specs.Banks.{InRange};

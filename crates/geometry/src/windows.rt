@@ -1,4 +1,5 @@
 // The four windows, and where an address stands in them.
+// What asks for InRange here is no call of the device: its callers ask in_range first.
 ghost use mathlib.Core.Path.{_≡_};
 ghost use Rattle.geometry.specs.Banks.{InRange};
 ghost use Rattle.geometry.specs.Windows.{windowStartOf, windowBytesOf, nowhere, inWindowOf, locateOf, pageOf, wordIndexOf, quadIndexOf, inSecondOf};
