@@ -1,0 +1,5 @@
+pub mod BufferLaws
+pub mod DigitLaws
+pub mod LineLaws
+pub mod PlayLaws
+pub mod ProgramLaws

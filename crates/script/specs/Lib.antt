@@ -1,0 +1,5 @@
+pub mod Records
+pub mod Digits
+pub mod Lines
+pub mod Play
+pub mod Program

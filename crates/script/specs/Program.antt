@@ -1,0 +1,46 @@
+-- What the play program prints. Assumes nothing.
+use Prim.Native.Nat.{ℕ, _*_}
+use mathlib.Core.Bool.{Bool}
+use mathlib.Core.List.{List, []}
+use lib.Dec.{ltb}
+use lib.ListN.{length, set, replicate}
+use Rattle.words.specs.Word.{pick, allOnes}
+use Rattle.geometry.specs.declared.banks.Geometry.{Geometry}
+use Rattle.geometry.specs.declared.decline.Decline.{Decline}
+use Rattle.geometry.specs.Banks.{bankWordsOf}
+use Rattle.geometry.specs.Decline.{numberOf}
+use Rattle.geometry.specs.Sequence.{sequenceIndexOf}
+use Rattle.device.specs.Record.{powerOn}
+use Rattle.controller.specs.Machine.{State, state}
+use Rattle.script.specs.Records.{recordsOf, isScriptOf}
+use Rattle.script.specs.Lines.{lineFeed, decimalOf}
+use Rattle.script.specs.Play.{linesOf}
+
+-- "Q=B=P=1"
+abbrev pub smallest : Geometry
+smallest = record { q = 1; b = 1; p = 1 }
+
+-- "all ones but bank 1's sequence word 0xFFFE0001"
+abbrev pub erasedBank : List ℕ
+erasedBank = replicate (bankWordsOf smallest) allOnes
+
+abbrev pub firstBank : List ℕ
+firstBank = set erasedBank (sequenceIndexOf smallest) 0xFFFE_0001
+
+-- "after power-on" (`power-on-there` of proofs/ProgramLaws: any power-on of these banks gives this device)
+abbrev pub startOf : State
+startOf = state powerOn firstBank erasedBank
+
+-- the longest script in bytes: "with more than 65,536 bytes, the program prints only the line 14"
+abbrev pub longest : ℕ
+longest = 65536
+
+-- "the line 14"
+abbrev pub declineLine : List ℕ
+declineLine = decimalOf (numberOf Decline.Script) lineFeed
+
+-- what is printed for a script
+unfoldable pub printedOf : List ℕ → List ℕ
+printedOf script =
+    pick (ltb longest (length script)) declineLine
+    (pick (isScriptOf script) (linesOf smallest [] startOf script (recordsOf script)) declineLine)

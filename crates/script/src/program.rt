@@ -1,0 +1,65 @@
+// What the play program prints for a script.
+ghost use mathlib.Core.Path.{_≡_};
+ghost use mathlib.Core.List.{[]};
+ghost use Prim.Native.Nat.{_≤_};
+ghost use lib.ListN.{length};
+ghost use Rattle.script.specs.Play.{putFirst, playOf};
+ghost use Rattle.script.specs.Program.{smallest, startOf, declineLine, printedOf};
+use crate::lines::put_decimal;
+use crate::play::Played;
+use crate::play::play;
+use device::record::power_on;
+use geometry::banks::Geometry;
+use geometry::decline::Decline;
+
+// The longest script in bytes.
+pub const LONGEST: usize = 65536;
+
+// Room for the longest output: 18 bytes for each of 8,192 records, whose numbers have at most four digits.
+pub const OUTPUT: usize = 147456;
+
+// The words of a bank of one boot page and one program page, each of one quad a row, and the index of its sequence word.
+const BANK: usize = 64;
+
+const SEQUENCE: usize = 28;
+
+const LINE_FEED: u8 = 10;
+
+// Plays a script after power-on on banks of all ones but bank 1's sequence word.
+fn play_after_power_on(script: &[u8], out: &mut [u8]) -> Played
+    ensures { λ r. ⌜ r .decline ≡ playOf smallest [] startOf (now (script .entry)) (now (out .entry)) .decline ⌝ }
+    ensures { λ r. ⌜ r .bytes ≡ playOf smallest [] startOf (now (script .entry)) (now (out .entry)) .bytes ⌝ }
+    ensures { λ r. ⌜ now (out .exit) ≡ playOf smallest [] startOf (now (script .entry)) (now (out .entry)) .buffer ⌝ }
+{
+    let g = Geometry { q: 1, b: 1, p: 1 };
+    let mut one = [0xFFFF_FFFFu32; BANK];
+    let mut two = [0xFFFF_FFFFu32; BANK];
+    let sram = [0u32; 1];
+    one[SEQUENCE] = 0xFFFE_0001;
+    play(g, power_on(), &mut one, &mut two, &sram[0..0], script, out)
+}
+
+// Writes the line of decline 14; gives its bytes.
+fn put_decline(out: &mut [u8]) -> usize
+    requires { ⌜ 3 ≤ length (now out) ⌝ }
+    ensures { λ r. ⌜ (now (out .exit) ≡ putFirst declineLine (now (out .entry))) × (r ≡ length declineLine) ⌝ }
+{
+    let number = Decline::Script.number();
+    put_decimal(out, 0, number as usize, LINE_FEED)
+}
+
+// Writes what is printed for a script; gives its bytes.
+pub fn print(script: &[u8], out: &mut [u8; OUTPUT]) -> usize
+    ensures { λ r. ⌜ now (out .exit) ≡ putFirst (printedOf (now (script .entry))) (now (out .entry)) ⌝ }
+    ensures { λ r. ⌜ r ≡ length (printedOf (now (script .entry))) ⌝ }
+{
+    if LONGEST < script.len() {
+        return put_decline(out);
+    }
+    let a = play_after_power_on(script, out);
+    let decline = a.decline;
+    if decline.is_accepted() {
+        return a.bytes;
+    }
+    put_decline(out)
+}
