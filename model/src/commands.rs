@@ -9,7 +9,7 @@ use model::device::{Device, NVMCON};
 use model::flash::reset;
 use model::generate::{self, Cases, DEFAULT_WORDS};
 use model::geometry::{Banks, Geometry};
-use model::script::{play, BYTE_LIMIT};
+use model::script::{bundled, play, unbundled, BYTE_LIMIT};
 use model::sequence::new_quad;
 use model::store::start_up;
 use model::update::{turn, update_start};
@@ -21,6 +21,8 @@ pub fn run(words: &[&str]) -> Option<io::Result<bool>> {
         ["check", files @ ..] if !files.is_empty() => Some(check(files)),
         ["play"] => Some(play_input()),
         ["scripts", folder] => Some(scripts(Path::new(folder))),
+        ["bundle", folder, count] => Some(bundle(Path::new(folder), count.parse().ok()?)),
+        ["play_bundle"] => Some(play_bundle()),
         ["cases", seed, count] => cases(seed, count, DEFAULT_WORDS),
         ["cases", seed, count, most] => cases(seed, count, most.parse().ok()?),
         ["script", seed] => script(seed, false),
@@ -74,11 +76,16 @@ fn play_input() -> io::Result<bool> {
     Ok(true)
 }
 
-fn scripts(folder: &Path) -> io::Result<bool> {
+fn script_paths(folder: &Path) -> io::Result<Vec<PathBuf>> {
     let entries: io::Result<Vec<_>> = std::fs::read_dir(folder)?.collect();
     let mut paths: Vec<PathBuf> = entries?.iter().map(|entry| entry.path()).collect();
     paths.retain(|path| path.extension().is_some_and(|extension| extension == "bin"));
     paths.sort();
+    Ok(paths)
+}
+
+fn scripts(folder: &Path) -> io::Result<bool> {
+    let paths = script_paths(folder)?;
     let mut differences = 0;
     for path in &paths {
         let expected = std::fs::read(path.with_extension("out"))?;
@@ -89,6 +96,27 @@ fn scripts(folder: &Path) -> io::Result<bool> {
     }
     println!("{} scripts, {differences} differences", paths.len());
     Ok(differences == 0)
+}
+
+/// The scripts of a folder, then some made from the seeds 1, 2, ..
+fn bundle(folder: &Path, count: u64) -> io::Result<bool> {
+    let mut output = BufWriter::new(io::stdout().lock());
+    for path in script_paths(folder)? {
+        output.write_all(&bundled(&std::fs::read(path)?))?;
+    }
+    for seed in 1..=count {
+        output.write_all(&bundled(&generate::script(seed, false)))?;
+    }
+    output.flush()?;
+    Ok(true)
+}
+
+fn play_bundle() -> io::Result<bool> {
+    let mut bytes = Vec::new();
+    io::stdin().lock().read_to_end(&mut bytes)?;
+    let text: String = unbundled(&bytes).iter().map(|s| play(s) + "-\n").collect();
+    io::stdout().lock().write_all(text.as_bytes())?;
+    Ok(true)
 }
 
 fn cases(seed: &str, count: &str, most: u32) -> Option<io::Result<bool>> {

@@ -127,3 +127,25 @@ fn play_record(device: Device, banks: &mut Banks, record: &Record) -> Answer<(De
         }
     }
 }
+
+/// A script in a bundle: its length in four bytes, little-endian, then its bytes.
+pub fn bundled(script: &[u8]) -> Vec<u8> {
+    let mut bytes = (script.len() as u32).to_le_bytes().to_vec();
+    bytes.extend_from_slice(script);
+    bytes
+}
+
+/// The scripts of a bundle that are there whole.
+pub fn unbundled(mut bytes: &[u8]) -> Vec<&[u8]> {
+    let mut scripts = Vec::new();
+    while let Some((length, rest)) = bytes.split_first_chunk() {
+        let length = u32::from_le_bytes(*length) as usize;
+        if rest.len() < length {
+            break;
+        }
+        let (script, after) = rest.split_at(length);
+        scripts.push(script);
+        bytes = after;
+    }
+    scripts
+}

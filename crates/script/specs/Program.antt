@@ -1,8 +1,8 @@
 -- What the play program prints. Assumes nothing.
 use Prim.Native.Nat.{ℕ, _*_}
-use mathlib.Core.Bool.{Bool}
+use mathlib.Core.Bool.{Bool, true, false}
 use mathlib.Core.List.{List, []}
-use lib.Dec.{ltb}
+use lib.Dec.{ltb, leb}
 use lib.ListN.{length, set, replicate}
 use Rattle.words.specs.Word.{pick, allOnes}
 use Rattle.geometry.specs.declared.banks.Geometry.{Geometry}
@@ -14,7 +14,7 @@ use Rattle.device.specs.Record.{powerOn}
 use Rattle.controller.specs.Machine.{State, state}
 use Rattle.script.specs.Records.{recordsOf, isScriptOf}
 use Rattle.script.specs.Lines.{lineFeed, decimalOf}
-use Rattle.script.specs.Play.{linesOf}
+use Rattle.script.specs.Play.{linesOf, putFirst, Playback}
 
 -- "Q=B=P=1"
 abbrev pub smallest : Geometry
@@ -44,3 +44,24 @@ unfoldable pub printedOf : List ℕ → List ℕ
 printedOf script =
     pick (ltb longest (length script)) declineLine
     (pick (isScriptOf script) (linesOf smallest [] startOf script (recordsOf script)) declineLine)
+
+-- everything after it: whether it was printed, its bytes, the buffer
+pub record Printout : Type 0 where
+  pub printed : Bool
+  pub bytes : ℕ
+  pub buffer : List ℕ
+
+abbrev pub printout : Bool → ℕ → List ℕ → Printout
+printout printed bytes buffer = record { printed = printed; bytes = bytes; buffer = buffer }
+
+-- what the program takes of a play
+abbrev pub takenOf : Playback → Printout
+takenOf p = printout (p .played) (p .bytes) (p .buffer)
+
+-- an output in a lent buffer; where it does not fit, nothing is written (ours)
+abbrev pub fittedOf : List ℕ → List ℕ → Printout
+fittedOf output buffer =
+    pick (leb (length output) (length buffer)) (printout true (length output) (putFirst output buffer)) (printout false 0 buffer)
+
+unfoldable pub printOf : List ℕ → List ℕ → Printout
+printOf script buffer = fittedOf (printedOf script) buffer

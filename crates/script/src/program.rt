@@ -1,10 +1,8 @@
 // What the play program prints for a script.
 ghost use mathlib.Core.Path.{_≡_};
 ghost use mathlib.Core.List.{[]};
-ghost use Prim.Native.Nat.{_≤_};
-ghost use lib.ListN.{length};
-ghost use Rattle.script.specs.Play.{putFirst, playOf};
-ghost use Rattle.script.specs.Program.{smallest, startOf, declineLine, printedOf};
+ghost use Rattle.script.specs.Play.{playOf};
+ghost use Rattle.script.specs.Program.{smallest, startOf, declineLine, printout, takenOf, fittedOf, printOf};
 use crate::lines::put_decimal;
 use crate::play::Played;
 use crate::play::play;
@@ -15,7 +13,7 @@ use geometry::decline::Decline;
 // The longest script in bytes.
 pub const LONGEST: usize = 65536;
 
-// Room for the longest output: 18 bytes for each of 8,192 records, whose numbers have at most four digits.
+// Room for every output: 18 bytes for each of 8,192 records, whose numbers have at most four digits.
 pub const OUTPUT: usize = 147456;
 
 // The words of a bank of one boot page and one program page, each of one quad a row, and the index of its sequence word.
@@ -25,11 +23,16 @@ const SEQUENCE: usize = 28;
 
 const LINE_FEED: u8 = 10;
 
+// The answer to a print. Where the output does not fit into the buffer, `printed` is false and the buffer is as before.
+pub struct Printed {
+    pub printed: bool,
+    pub bytes: usize,
+}
+
 // Plays a script after power-on on banks of all ones but bank 1's sequence word.
 fn play_after_power_on(script: &[u8], out: &mut [u8]) -> Played
     ensures { λ r. ⌜ r .decline ≡ playOf smallest [] startOf (now (script .entry)) (now (out .entry)) .decline ⌝ }
-    ensures { λ r. ⌜ r .bytes ≡ playOf smallest [] startOf (now (script .entry)) (now (out .entry)) .bytes ⌝ }
-    ensures { λ r. ⌜ now (out .exit) ≡ playOf smallest [] startOf (now (script .entry)) (now (out .entry)) .buffer ⌝ }
+    ensures { λ r. ⌜ printout (r .played) (r .bytes) (now (out .exit)) ≡ takenOf (playOf smallest [] startOf (now (script .entry)) (now (out .entry))) ⌝ }
 {
     let g = Geometry { q: 1, b: 1, p: 1 };
     let mut one = [0xFFFF_FFFFu32; BANK];
@@ -39,27 +42,37 @@ fn play_after_power_on(script: &[u8], out: &mut [u8]) -> Played
     play(g, power_on(), &mut one, &mut two, &sram[0..0], script, out)
 }
 
-// Writes the line of decline 14; gives its bytes.
-fn put_decline(out: &mut [u8]) -> usize
-    requires { ⌜ 3 ≤ length (now out) ⌝ }
-    ensures { λ r. ⌜ (now (out .exit) ≡ putFirst declineLine (now (out .entry))) × (r ≡ length declineLine) ⌝ }
+// Writes the line of decline 14.
+fn print_decline(out: &mut [u8]) -> Printed
+    ensures { λ r. ⌜ printout (r .printed) (r .bytes) (now (out .exit)) ≡ fittedOf declineLine (now (out .entry)) ⌝ }
 {
+    if out.len() < 3 {
+        return Printed {
+            printed: false,
+            bytes: 0,
+        };
+    }
     let number = Decline::Script.number();
-    put_decimal(out, 0, number as usize, LINE_FEED)
+    Printed {
+        printed: true,
+        bytes: put_decimal(out, 0, number as usize, LINE_FEED),
+    }
 }
 
-// Writes what is printed for a script; gives its bytes.
-pub fn print(script: &[u8], out: &mut [u8; OUTPUT]) -> usize
-    ensures { λ r. ⌜ now (out .exit) ≡ putFirst (printedOf (now (script .entry))) (now (out .entry)) ⌝ }
-    ensures { λ r. ⌜ r ≡ length (printedOf (now (script .entry))) ⌝ }
+// Writes what is printed for a script.
+pub fn print(script: &[u8], out: &mut [u8]) -> Printed
+    ensures { λ r. ⌜ printout (r .printed) (r .bytes) (now (out .exit)) ≡ printOf (now (script .entry)) (now (out .entry)) ⌝ }
 {
     if LONGEST < script.len() {
-        return put_decline(out);
+        return print_decline(out);
     }
     let a = play_after_power_on(script, out);
     let decline = a.decline;
     if decline.is_accepted() {
-        return a.bytes;
+        return Printed {
+            printed: a.played,
+            bytes: a.bytes,
+        };
     }
-    put_decline(out)
+    print_decline(out)
 }

@@ -30,5 +30,3 @@ turn-spec =
     (λ c. search needs)
     (λ c. search needs)
     (λ c. search needs))
-
--- x

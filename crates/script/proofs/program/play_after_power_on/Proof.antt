@@ -3,6 +3,7 @@ use borrow.Author.Needs.{needs}
 use mathlib.Core.Path.{ap, refl}
 use native.Mathlib.Omega.{arith}
 use Rattle.script.specs.Play.{Playback}
+use Rattle.script.specs.Program.{takenOf}
 use Rattle.script.proofs.program.play_after_power_on.Statement.{statement}
 use Rattle.script.proofs.program.play_after_power_on.Tie as tie
 
@@ -19,4 +20,4 @@ play-after-power-on-spec =
     (λ c. omega arith)
     (λ c κs. search needs)
     (λ c. search needs)
-    (λ c. let e = rw (c .before .before .before .before .before .before .before .before .before .before .power-on .ensures) at (c .before .before .before .before .play .ensures) in (ap (λ (p : Playback). p .decline) e, (ap (λ (p : Playback). p .bytes) e, ap (λ (p : Playback). p .buffer) e))))
+    (λ c. let e = rw (c .before .before .before .before .before .before .before .before .before .before .power-on .ensures) at (c .before .before .before .before .play .ensures) in (ap (λ (p : Playback). p .decline) e, ap (λ (p : Playback). takenOf p) e)))

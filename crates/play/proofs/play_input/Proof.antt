@@ -1,0 +1,33 @@
+-- What is printed lies within the buffer.
+use borrow.Author.Needs.{needs}
+use lib.Seq.{length-take-le}
+use mathlib.Core.Path.{sym}
+use native.Mathlib.Omega.{arith}
+use Rattle.script.proofs.ProgramLaws.{print-within}
+use Rattle.play.proofs.play_input.Statement.{statement}
+use Rattle.play.proofs.play_input.Tie as tie
+
+pub play-input-spec : {M : Type 1} → statement M
+play-input-spec =
+    tie.close
+    (tie.spec
+    (λ c κs. search needs)
+    (λ c κs. search needs)
+    (λ c. search needs)
+    (λ c κs. search needs)
+    (λ c. search needs)
+    (λ c. search needs)
+    (λ c. search needs)
+    (λ c. sym (length-take-le _ _ (omega arith)))
+    (λ c κs. search needs)
+    (λ c. omega (arith, print-within _ _ _ (c .before .before .print .ensures)))
+    (λ c. sym (length-take-le _ _ (omega (arith, print-within _ _ _ (c .before .before .before .print .ensures)))))
+    (λ c κs. search needs)
+    (λ c. search needs)
+    (λ c κs. search needs)
+    (λ c. search needs)
+    (λ c. search needs)
+    (λ c. search needs)
+    (λ c. search needs)
+    (λ c. search needs)
+    (λ c. search needs))
