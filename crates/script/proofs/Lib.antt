@@ -3,3 +3,4 @@ pub mod DigitLaws
 pub mod LineLaws
 pub mod PlayLaws
 pub mod ProgramLaws
+pub mod MachineLaws

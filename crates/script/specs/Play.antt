@@ -13,7 +13,7 @@ use Rattle.device.specs.declared.store.Stored.{Stored}
 use Rattle.device.specs.Store.{storeOf}
 use Rattle.flash.specs.Step.{After, after, stepOf}
 use Rattle.controller.specs.Reset.{resetOf}
-use Rattle.controller.specs.Machine.{State, state, left}
+use Rattle.controller.specs.Machine.{State, state, left, Operation}
 use Rattle.script.specs.declared.records.Record.{Record}
 use Rattle.script.specs.Records.{recordOf, recordsOf, isScriptOf}
 use Rattle.script.specs.Lines.{lineOf, lengthOf}
@@ -77,3 +77,16 @@ playOf g sram s script buffer =
     (pick (leb (lengthOf (recordsOf script)) (length buffer)) (playedOf g sram s script buffer)
     (playback Decline.Accepted false 0 s buffer))
     (playback Decline.Script false 0 s buffer)
+
+-- ---- a play as a run of the machine (`play-runs` of proofs/MachineLaws)
+
+-- a record as an operation of the controller
+abbrev pub operationOf : List ℕ → Record → Operation
+operationOf sram r =
+    pick (eqb (r .kind) 0) (Operation.store (r .number) (r .form) (r .value))
+    (pick (eqb (r .kind) 1) (Operation.step sram) (Operation.reset sram (r .number) maskZero))
+
+-- the first i records as operations, in their order
+abbrev pub operationsOf : List ℕ → List ℕ → ℕ → List Operation
+operationsOf sram script zero = []
+operationsOf sram script (suc i) = operationsOf sram script i ++ (operationOf sram (recordOf script i) ∷ [])
