@@ -1,6 +1,6 @@
 -- How long the lines are.
 -- Assumes nothing.
-use mathlib.Core.Path.{_≡_, refl, sym, ap, _∙_}
+use mathlib.Core.Path.{_≡_}
 use mathlib.Core.Bool.{Bool, true, false}
 use mathlib.Core.List.{List, [], _∷_, _++_}
 use Prim.Native.Nat.{ℕ, zero, suc, _+_, _*_, _≤_, _<_}
@@ -9,7 +9,7 @@ use native.Mathlib.Omega.{arith}
 use lib.ListN.{length, set, length-append}
 use lib.Seq.{sets}
 use Rattle.script.specs.Digits.{digitsOf, widthOf}
-use Rattle.script.specs.Lines.{blank, lineFeed, columnOf, decimalOf, flagOf, lineOf, lengthOf}
+use Rattle.script.specs.Lines.{blank, lineFeed, columnOf, decimalOf, flagOf, lineOf, linesLengthOf}
 use Rattle.script.proofs.BufferLaws.{sets-append, sets-after}
 use Rattle.script.proofs.DigitLaws.{digits-length, width-one, width-four}
 
@@ -57,15 +57,15 @@ put-line out at i answer con event =
     )
 
 -- more lines are no shorter
-pub length-grows : (i n : ℕ) → i ≤ n → lengthOf i ≤ lengthOf n
+pub length-grows : (i n : ℕ) → i ≤ n → linesLengthOf i ≤ linesLengthOf n
 length-grows i zero l = let e : i ≡ 0 = omega arith in rw e (omega arith)
 length-grows i (suc n) l = go (decLe i n) (length-grows i n)
   where
-    go : Dec (i ≤ n) → (i ≤ n → lengthOf i ≤ lengthOf n) → lengthOf i ≤ lengthOf (suc n)
+    go : Dec (i ≤ n) → (i ≤ n → linesLengthOf i ≤ linesLengthOf n) → linesLengthOf i ≤ linesLengthOf (suc n)
     go (yes h) below = omega (arith, below h)
     go (no h) below = let e : i ≡ suc n = omega arith in rw e (omega arith)
 
 -- 18 bytes a line are enough for numbers of at most four digits
-pub length-four : (n : ℕ) → n ≤ 10000 → lengthOf n ≤ 18 * n
+pub length-four : (n : ℕ) → n ≤ 10000 → linesLengthOf n ≤ 18 * n
 length-four zero l = omega arith
 length-four (suc n) l = omega (arith, length-four n (omega arith), width-four n (omega arith))

@@ -1,7 +1,7 @@
 -- What a play prints.
 -- Assumes nothing.
 use mathlib.Core.Path.{_≡_, refl, ap}
-use mathlib.Core.Bool.{Bool, true, false, _&&_, and-false}
+use mathlib.Core.Bool.{Bool, true, false, and-false}
 use Prim.Native.Nat.{ℕ, zero, suc, _+_, _≤_, _<_}
 use native.Mathlib.Nat.{not-suc-le-zero}
 use native.Mathlib.Decide.{decLe}
@@ -10,7 +10,7 @@ use mathlib.Core.List.{List, _++_}
 use lib.Dec.{eqb, ltb}
 use lib.ListN.{length, length-append}
 use lib.Seq.{sets}
-use Rattle.words.specs.Word.{pick, allBelow}
+use Rattle.words.specs.Word.{allBelow}
 use Rattle.words.proofs.PickLaws.{pick-both}
 use Rattle.geometry.specs.declared.banks.Geometry.{Geometry}
 use Rattle.geometry.specs.declared.decline.Decline.{Decline}
@@ -28,7 +28,7 @@ use Rattle.controller.specs.Machine.{State, left}
 use Rattle.script.specs.declared.records.Record.{Record}
 use Rattle.script.specs.Records.{recordOf, recordsOf}
 use Rattle.script.specs.Digits.{widthOf}
-use Rattle.script.specs.Lines.{lengthOf}
+use Rattle.script.specs.Lines.{linesLengthOf}
 use Rattle.script.specs.Play.{recordAfterOf, stateOf, recordLineOf, linesOf, playback, playedOf}
 use Rattle.script.proofs.BufferLaws.{sets-after, sets-front}
 use Rattle.script.proofs.LineLaws.{line-length}
@@ -89,7 +89,7 @@ pub answer-digit : (g : Geometry) (sram : List ℕ) (s : State) (r : Record) (a 
 answer-digit g sram s r a e = rw e (record-digit g sram s r)
 
 -- so the length of the output is known before it is played
-pub lines-length : (g : Geometry) (sram : List ℕ) (s : State) (script : List ℕ) (n : ℕ) → length (linesOf g sram s script n) ≡ lengthOf n
+pub lines-length : (g : Geometry) (sram : List ℕ) (s : State) (script : List ℕ) (n : ℕ) → length (linesOf g sram s script n) ≡ linesLengthOf n
 lines-length g sram s script zero = refl
 lines-length g sram s script (suc n) =
     let a = recordAfterOf g sram (stateOf g sram s script n) (recordOf script n) in
@@ -105,7 +105,7 @@ lines-length g sram s script (suc n) =
 pub record Playing (g : Geometry) (sram : List ℕ) (start : State) (script before : List ℕ) (s : State) (out : List ℕ) (bytes i : ℕ) : Type 0 where
   pub reached : s ≡ stateOf g sram start script i
   pub written : out ≡ sets before 0 (linesOf g sram start script i)
-  pub counted : bytes ≡ lengthOf i
+  pub counted : bytes ≡ linesLengthOf i
 
 -- the bytes are those of the lines
 pub playing-bytes : (g : Geometry) (sram : List ℕ) (start : State) (script before : List ℕ) (s : State) (out : List ℕ) (bytes i : ℕ)
@@ -132,7 +132,7 @@ playing-next g sram start script before s out bytes i p r er a ea out′ eo byte
 
 -- a play that has ended
 pub play-ends : (g : Geometry) (sram : List ℕ) (start : State) (script buffer : List ℕ) (s : State) (out : List ℕ) (bytes : ℕ)
-    → lengthOf (recordsOf script) ≤ length buffer
+    → linesLengthOf (recordsOf script) ≤ length buffer
     → s ≡ stateOf g sram start script (recordsOf script) → out ≡ sets buffer 0 (linesOf g sram start script (recordsOf script))
     → bytes ≡ length (linesOf g sram start script (recordsOf script))
     → playback Decline.Accepted true bytes s out ≡ playedOf g sram start script buffer

@@ -20,7 +20,7 @@ use Rattle.geometry.specs.Sequence.{complementOf, validOf, bfswapOf}
 use Rattle.controller.specs.Reset.{comparedOf, resetConOf, resetDeviceOf}
 use Rattle.script.specs.Records.{recordsOf, isScriptOf}
 use Rattle.script.specs.Digits.{widthOf}
-use Rattle.script.specs.Lines.{lengthOf}
+use Rattle.script.specs.Lines.{linesLengthOf}
 use Rattle.script.specs.Play.{linesOf, Playback, playback, playOf}
 use Rattle.script.specs.Program.{smallest, firstBank, erasedBank, startOf, longest, declineLine, printedOf, Printout, takenOf, fittedOf, printOf}
 use Rattle.script.proofs.LineLaws.{length-four}
@@ -46,12 +46,12 @@ script-fitted : (script buffer : List ℕ) → isScriptOf script ≡ true
 unfolding playOf
 script-fitted script buffer e =
     rw (e, lines-length smallest [] startOf script (recordsOf script))
-    (through takenOf (leb (lengthOf (recordsOf script)) (length buffer)) _ _)
+    (through takenOf (leb (linesLengthOf (recordsOf script)) (length buffer)) _ _)
 
 script-accepted : (script buffer : List ℕ) → isScriptOf script ≡ true → acceptedOf (played script buffer .decline) ≡ true
 unfolding playOf
 script-accepted script buffer e =
-    rw e (pick-both (λ (p : Playback). acceptedOf (p .decline) ≡ true) (leb (lengthOf (recordsOf script)) (length buffer)) refl refl)
+    rw e (pick-both (λ (p : Playback). acceptedOf (p .decline) ≡ true) (leb (linesLengthOf (recordsOf script)) (length buffer)) refl refl)
 
 -- what is no script is declined
 not-script : (script buffer : List ℕ) → isScriptOf script ≡ false → played script buffer ≡ playback Decline.Script false 0 startOf buffer

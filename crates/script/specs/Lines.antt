@@ -29,6 +29,6 @@ lineOf i answer con event =
     decimalOf i blank ++ (decimalOf answer blank ++ (columnOf 16 con 8 blank ++ decimalOf (flagOf event) lineFeed))
 
 -- the bytes of so many lines, from line 0, each with an answer of one digit
-abbrev pub lengthOf : ℕ → ℕ
-lengthOf zero = 0
-lengthOf (suc i) = lengthOf i + (widthOf i + 14)
+abbrev pub linesLengthOf : ℕ → ℕ
+linesLengthOf zero = 0
+linesLengthOf (suc i) = linesLengthOf i + (widthOf i + 14)

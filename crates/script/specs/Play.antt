@@ -8,15 +8,14 @@ use Rattle.words.specs.Word.{pick}
 use Rattle.geometry.specs.declared.banks.Geometry.{Geometry}
 use Rattle.geometry.specs.declared.decline.Decline.{Decline}
 use Rattle.geometry.specs.Decline.{numberOf}
-use Rattle.device.specs.declared.record.Device.{Device}
 use Rattle.device.specs.declared.store.Stored.{Stored}
 use Rattle.device.specs.Store.{storeOf}
 use Rattle.flash.specs.Step.{After, after, stepOf}
 use Rattle.controller.specs.Reset.{resetOf}
-use Rattle.controller.specs.Machine.{State, state, left, Operation}
+use Rattle.controller.specs.Machine.{State, left, Operation}
 use Rattle.script.specs.declared.records.Record.{Record}
 use Rattle.script.specs.Records.{recordOf, recordsOf, isScriptOf}
-use Rattle.script.specs.Lines.{lineOf, lengthOf}
+use Rattle.script.specs.Lines.{lineOf, linesLengthOf}
 
 -- "Resets use mask 0."
 abbrev pub maskZero : List ℕ
@@ -74,7 +73,7 @@ playedOf g sram s script buffer =
 unfoldable pub playOf : Geometry → List ℕ → State → List ℕ → List ℕ → Playback
 playOf g sram s script buffer =
     pick (isScriptOf script)
-    (pick (leb (lengthOf (recordsOf script)) (length buffer)) (playedOf g sram s script buffer)
+    (pick (leb (linesLengthOf (recordsOf script)) (length buffer)) (playedOf g sram s script buffer)
     (playback Decline.Accepted false 0 s buffer))
     (playback Decline.Script false 0 s buffer)
 

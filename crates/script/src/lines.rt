@@ -5,7 +5,7 @@ ghost use lib.Dec.{leb};
 ghost use lib.ListN.{length};
 ghost use lib.Seq.{sets};
 ghost use Rattle.script.specs.Digits.{widthOf};
-ghost use Rattle.script.specs.Lines.{columnOf, decimalOf, flagOf, lineOf, lengthOf};
+ghost use Rattle.script.specs.Lines.{columnOf, decimalOf, flagOf, lineOf, linesLengthOf};
 use crate::digits::put_digits;
 use crate::digits::width;
 
@@ -55,7 +55,7 @@ pub fn put_line(out: &mut [u8], at: usize, i: usize, answer: u32, con: u32, even
 
 // Whether a buffer has room for so many lines, counted so that no sum can overflow.
 pub fn fits(lines: usize, room: usize) -> bool
-    ensures { λ r. ⌜ r ≡ leb (lengthOf lines) room ⌝ }
+    ensures { λ r. ⌜ r ≡ leb (linesLengthOf lines) room ⌝ }
 {
     let mut left = room;
     let mut i = 0;

@@ -1,12 +1,12 @@
 // Playing a script on lent banks.
 ghost use mathlib.Core.Path.{_≡_};
-ghost use Prim.Native.Nat.{_+_, _*_, _≤_, _<_, _/_};
+ghost use Prim.Native.Nat.{_≤_};
 ghost use lib.ListN.{length};
 ghost use lib.Seq.{sets};
 ghost use Rattle.flash.specs.Step.{after};
 ghost use Rattle.controller.specs.Machine.{state};
-ghost use Rattle.script.specs.Records.{recordOf, recordsOf};
-ghost use Rattle.script.specs.Lines.{lengthOf};
+ghost use Rattle.script.specs.Records.{recordsOf};
+ghost use Rattle.script.specs.Lines.{linesLengthOf};
 ghost use Rattle.script.specs.Play.{recordAfterOf, stateOf, linesOf, playback, playOf};
 use crate::lines::fits;
 use crate::lines::put_line;
@@ -80,7 +80,7 @@ fn play_records(
     script: &[u8],
     out: &mut [u8],
 ) -> Lines
-    requires { ⌜ lengthOf (recordsOf (now script)) ≤ length (now out) ⌝ }
+    requires { ⌜ linesLengthOf (recordsOf (now script)) ≤ length (now out) ⌝ }
     ensures { λ r. ⌜ state (r .device) (now (one .exit)) (now (two .exit)) ≡ stateOf g (now (sram .entry)) (state d (now (one .entry)) (now (two .entry))) (now (script .entry)) (recordsOf (now (script .entry))) ⌝ }
     ensures { λ r. ⌜ now (out .exit) ≡ sets (now (out .entry)) 0 (linesOf g (now (sram .entry)) (state d (now (one .entry)) (now (two .entry))) (now (script .entry)) (recordsOf (now (script .entry)))) ⌝ }
     ensures { λ r. ⌜ r .bytes ≡ length (linesOf g (now (sram .entry)) (state d (now (one .entry)) (now (two .entry))) (now (script .entry)) (recordsOf (now (script .entry)))) ⌝ }

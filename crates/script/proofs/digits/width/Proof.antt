@@ -1,5 +1,5 @@
 -- The invariant: the digits counted and those of what is left make one more than all. The measure is what is left.
-use Prim.Native.Nat.{_+_, _≤_, _/_}
+use Prim.Native.Nat.{_+_, _≤_}
 use mathlib.Core.Path.{_≡_}
 use native.Mathlib.Omega.{arith}
 use Rattle.script.proofs.DigitLaws.{width-one, width-more}

@@ -7,12 +7,12 @@ use native.Mathlib.Numerals.{add-one}
 use native.Mathlib.Omega.{arith}
 use Rattle.script.proofs.DigitLaws.{width-twenty}
 use Rattle.script.proofs.LineLaws.{length-grows}
-use Rattle.script.specs.Lines.{lengthOf}
+use Rattle.script.specs.Lines.{linesLengthOf}
 use Rattle.script.proofs.lines.fits.Statement.{statement}
 use Rattle.script.proofs.lines.fits.Tie as tie
 
 abbrev Inv-loop : tie.InvT-loop
-Inv-loop lines room left₀ i₀ left i = (i ≤ lines) × (lengthOf i + left ≡ room)
+Inv-loop lines room left₀ i₀ left i = (i ≤ lines) × (linesLengthOf i + left ≡ room)
 
 abbrev μ-loop : tie.MeasureT-loop
 μ-loop lines room left₀ i₀ left i = lines - i
@@ -26,8 +26,8 @@ fits-spec =
     (λ c. (omega arith, omega arith))
     (λ c κs. search needs)
     (λ c. omega (arith, c .width .ensures, width-twenty (c .before .before .loop .i) (omega arith)))
-    (λ c. sym (lt-leb (lengthOf (c .before .before .before .before .args .lines)) (c .before .before .before .before .args .room) (omega (arith, c .before .width .ensures, length-grows (suc (c .before .before .before .loop .i)) (c .before .before .before .before .args .lines) (omega arith), c .before .before .before .loop .inv .1))))
+    (λ c. sym (lt-leb (linesLengthOf (c .before .before .before .before .args .lines)) (c .before .before .before .before .args .room) (omega (arith, c .before .width .ensures, length-grows (suc (c .before .before .before .loop .i)) (c .before .before .before .before .args .lines) (omega arith), c .before .before .before .loop .inv .1))))
     (λ c. omega arith)
     (λ c. omega arith)
     (λ c. (omega arith, rw (add-one (c .before .before .before .loop .i)) (omega (arith, c .before .width .ensures, c .before .before .before .loop .inv .1))))
-    (λ c. let e : c .before .before .args .lines ≡ c .before .loop .i = omega (arith, c .loop-test .left, c .before .loop .inv .0) in rw e (sym (le-leb (lengthOf (c .before .loop .i)) (c .before .before .args .room) (omega (arith, c .before .loop .inv .1))))))
+    (λ c. let e : c .before .before .args .lines ≡ c .before .loop .i = omega (arith, c .loop-test .left, c .before .loop .inv .0) in rw e (sym (le-leb (linesLengthOf (c .before .loop .i)) (c .before .before .args .room) (omega (arith, c .before .loop .inv .1))))))

@@ -1,6 +1,5 @@
 -- The digits, and the byte after them.
 use borrow.Author.Needs.{needs}
-use lib.Seq.{length-sets}
 use mathlib.Core.Path.{refl}
 use native.Mathlib.Omega.{arith}
 use Rattle.script.proofs.LineLaws.{put-column}

@@ -8,6 +8,16 @@ use Rattle.script.specs.Play.{playOf}
 use Rattle.script.proofs.play.play.Statement.{statement}
 use Rattle.script.proofs.play.play.Tie as tie
 
+returns-3 : tie.Need-returns-3
+unfolding playOf
+returns-3 c =
+    let a = c .before .before .before .before .before .before .before .before .before .before .before .before .before .before .before .before .before .before .before .before .args in
+    let script = sym (c .before .before .before .before .before .before .before .before .before .before .before .before .before .before .is-script .ensures) ∙ not-false _ (c .before .before .before .before .before .before .before .before .before .before .before .before .before .if1 .left) in
+    let room = sym (c .before .before .before .before .before .before .before .before .before .before .before .before .fits2 .ensures) ∙ not-false _ (c .before .before .before .before .before .before .before .before .before .before .before .if2 .left) in
+    let (left, (written, bytes)) = c .before .before .before .before .before .before .before .play-records .ensures in
+    rw (script, room)
+    (play-ends (a .g) (a .sram .now) (state (a .d) (a .one .now) (a .two .now)) (a .script .now) (a .out .now) _ _ _ (leb-true _ _ room) left written bytes)
+
 pub play-spec : {M : Type 1} → statement M
 unfolding playOf
 play-spec =
@@ -21,4 +31,4 @@ play-spec =
     (λ c. search needs)
     (λ c. search needs)
     (λ c. search needs)
-    (λ c. rw (sym (c .before .before .before .before .before .before .before .before .before .before .before .before .before .before .is-script .ensures) ∙ not-false _ (c .before .before .before .before .before .before .before .before .before .before .before .before .before .if1 .left), sym (c .before .before .before .before .before .before .before .before .before .before .before .before .fits2 .ensures) ∙ not-false _ (c .before .before .before .before .before .before .before .before .before .before .before .if2 .left)) (let a = c .before .before .before .before .before .before .before .before .before .before .before .before .before .before .before .before .before .before .before .before .args in play-ends (a .g) (a .sram .now) (state (a .d) (a .one .now) (a .two .now)) (a .script .now) (a .out .now) _ _ _ (leb-true _ _ (sym (c .before .before .before .before .before .before .before .before .before .before .before .before .fits2 .ensures) ∙ not-false _ (c .before .before .before .before .before .before .before .before .before .before .before .if2 .left))) (c .before .before .before .before .before .before .before .play-records .ensures .0) (c .before .before .before .before .before .before .before .play-records .ensures .1 .0) (c .before .before .before .before .before .before .before .play-records .ensures .1 .1))))
+    returns-3)

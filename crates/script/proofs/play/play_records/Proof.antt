@@ -2,15 +2,12 @@
 use Prim.Native.Nat.{suc, _-_, _≤_, _/_}
 use borrow.Author.Needs.{needs}
 use lib.ListN.{length}
-use lib.Seq.{length-sets}
 use mathlib.Core.Path.{_≡_, refl}
 use native.Mathlib.Numerals.{add-one}
 use native.Mathlib.Omega.{arith}
 use Rattle.controller.specs.Machine.{state}
-use Rattle.geometry.specs.Decline.{numberOf}
 use Rattle.script.proofs.LineLaws.{length-grows}
 use Rattle.script.proofs.PlayLaws.{answer-digit, Playing, playing-bytes, playing-next}
-use Rattle.script.specs.Lines.{lengthOf}
 use Rattle.script.proofs.play.play_records.Statement.{statement}
 use Rattle.script.proofs.play.play_records.Tie as tie
 
@@ -25,6 +22,32 @@ Inv-loop g one₀ two₀ sram script out₀ device₀ bytes₀ i₀ one two out 
 abbrev μ-loop : tie.MeasureT-loop
 μ-loop g one₀ two₀ sram script out₀ device₀ bytes₀ i₀ one two out device bytes i = length script / 8 - i
 
+put-line-requires : tie.Need-put-line-requires Inv-loop μ-loop
+put-line-requires c κs =
+    let loop = c .before .before .before .before .before .before .before .before .before .before .before .before .loop in
+    let more = length-grows (suc (loop .i)) (length (c .before .before .before .before .before .before .before .before .before .before .before .before .before .before .before .before .before .before .args .script .now) / 8) (c .before .before .before .before .before .before .before .before .before .before .before .loop-test .taken) in (
+      rw (c .number .ensures) (answer-digit _ _ _ _ _ (c .before .before .before .before .before .before .before .play-record .ensures)),
+      omega (arith, loop .inv .1 .counted, loop .inv .4, more, c .before .before .before .before .before .before .before .before .before .before .before .before .before .before .before .before .before .before .pre),
+    )
+
+loop-again : tie.Need-loop-again Inv-loop μ-loop
+loop-again c =
+    let (within, playing, first, other, room) = c .before .before .before .before .before .before .before .before .before .before .before .before .before .before .before .loop .inv in
+    let line = rw (c .before .before .before .number .ensures) at (c .before .before .put-line .ensures .0) in (
+      omega arith,
+      rw (add-one (c .before .before .before .before .before .before .before .before .before .before .before .before .before .before .before .loop .i))
+          (playing-next _ _ _ _ _ _ _ _ _ playing _ (c .before .before .before .before .before .before .before .before .before .before .before .record-at .ensures) _ (c .before .before .before .before .before .before .before .before .before .before .play-record .ensures) _ line _ (c .before .before .put-line .ensures .1)),
+      omega (arith, first),
+      omega (arith, other),
+      omega (arith, room),
+    )
+
+returns : tie.Need-returns Inv-loop μ-loop
+returns c =
+    let e : length (c .before .before .before .before .before .before .before .args .script .now) / 8 ≡ c .before .loop .i = omega (arith, c .loop-test .left, c .before .loop .inv .0) in
+    let p = c .before .loop .inv .1 in
+    rw e (p .reached, (p .written, playing-bytes _ _ _ _ _ _ _ _ _ p))
+
 pub play-records-spec : {M : Type 1} → statement M
 play-records-spec =
     tie.close
@@ -35,11 +58,11 @@ play-records-spec =
     (λ c κs. omega arith)
     (λ c κs. search needs)
     (λ c κs. search needs)
-    (λ c κs. (rw (c .number .ensures) (answer-digit _ _ _ _ _ (c .before .before .before .before .before .before .before .play-record .ensures)), omega (arith, c .before .before .before .before .before .before .before .before .before .before .before .before .loop .inv .1 .counted, c .before .before .before .before .before .before .before .before .before .before .before .before .loop .inv .4, length-grows (suc (c .before .before .before .before .before .before .before .before .before .before .before .before .loop .i)) (length (c .before .before .before .before .before .before .before .before .before .before .before .before .before .before .before .before .before .before .args .script .now) / 8) (c .before .before .before .before .before .before .before .before .before .before .before .loop-test .taken), c .before .before .before .before .before .before .before .before .before .before .before .before .before .before .before .before .before .before .pre)))
+    put-line-requires
     (λ c. omega (arith, c .before .before .before .before .before .before .before .before .before .before .before .before .before .before .before .before .before .before .before .before .before .good))
     (λ c. omega arith)
-    (λ c. let (within, playing, first, other, room) = c .before .before .before .before .before .before .before .before .before .before .before .before .before .before .before .loop .inv in (omega arith, rw (add-one (c .before .before .before .before .before .before .before .before .before .before .before .before .before .before .before .loop .i)) (playing-next _ _ _ _ _ _ _ _ _ playing _ (c .before .before .before .before .before .before .before .before .before .before .before .record-at .ensures) _ (c .before .before .before .before .before .before .before .before .before .before .play-record .ensures) _ (rw (c .before .before .before .number .ensures) at (c .before .before .put-line .ensures .0)) _ (c .before .before .put-line .ensures .1)), omega (arith, first), omega (arith, other), omega (arith, room)))
+    loop-again
     (λ c. c .before .loop .inv .2)
     (λ c. c .before .loop .inv .3)
     (λ c. c .before .loop .inv .4)
-    (λ c. let e : length (c .before .before .before .before .before .before .before .args .script .now) / 8 ≡ c .before .loop .i = omega (arith, c .loop-test .left, c .before .loop .inv .0) in let p = c .before .loop .inv .1 in rw e (p .reached, (p .written, playing-bytes _ _ _ _ _ _ _ _ _ p))))
+    returns)

@@ -6,6 +6,21 @@ use Rattle.script.specs.Program.{Printout}
 use Rattle.script.proofs.program.print.Statement.{statement}
 use Rattle.script.proofs.program.print.Tie as tie
 
+returns-2 : tie.Need-returns-2
+returns-2 c =
+    let a = c .before .before .before .before .before .before .before .before .before .args in
+    let (decline, played) = c .before .before .before .before .play-after-power-on .ensures in
+    let accepted = rw decline at (sym (c .before .is-accepted .ensures) ∙ c .if2 .taken) in
+    played ∙ print-accepted (a .script .now) (a .out .now) (c .before .before .before .before .before .before .if1 .left) accepted
+
+returns-3 : tie.Need-returns-3
+returns-3 c =
+    let a = c .before .before .before .before .before .before .before .before .before .before .before .before .before .args in
+    let (decline, played) = c .before .before .before .before .before .before .before .before .play-after-power-on .ensures in
+    let declined = rw decline at (sym (c .before .before .before .before .before .is-accepted .ensures) ∙ c .before .before .before .before .if2 .left) in
+    let (same, printed) = print-declined (a .script .now) (a .out .now) (c .before .before .before .before .before .before .before .before .before .before .if1 .left) declined in
+    rw (printed, ← same, ← ap (λ (q : Printout). q .buffer) played) (c .before .before .print-decline2 .ensures)
+
 pub print-spec : {M : Type 1} → statement M
 print-spec =
     tie.close
@@ -16,7 +31,7 @@ print-spec =
     (λ c κs. search needs)
     (λ c κs. search needs)
     (λ c. search needs)
-    (λ c. let r = c .before .before .before .before .play-after-power-on .ensures in r .1 ∙ print-accepted (c .before .before .before .before .before .before .before .before .before .args .script .now) (c .before .before .before .before .before .before .before .before .before .args .out .now) (c .before .before .before .before .before .before .if1 .left) (rw (r .0) at (sym (c .before .is-accepted .ensures) ∙ c .if2 .taken)))
+    returns-2
     (λ c κs. search needs)
     (λ c. search needs)
-    (λ c. let r = c .before .before .before .before .before .before .before .before .play-after-power-on .ensures in let p = print-declined (c .before .before .before .before .before .before .before .before .before .before .before .before .before .args .script .now) (c .before .before .before .before .before .before .before .before .before .before .before .before .before .args .out .now) (c .before .before .before .before .before .before .before .before .before .before .if1 .left) (rw (r .0) at (sym (c .before .before .before .before .before .is-accepted .ensures) ∙ c .before .before .before .before .if2 .left)) in rw (p .1, ← p .0, ← ap (λ (q : Printout). q .buffer) (r .1)) (c .before .before .print-decline2 .ensures)))
+    returns-3)

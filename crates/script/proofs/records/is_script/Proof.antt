@@ -19,6 +19,28 @@ Inv-loop script i₀ i = (i ≤ length script / 8) × (allBelow (λ k. isRecordO
 abbrev μ-loop : tie.MeasureT-loop
 μ-loop script i₀ i = length script / 8 - i
 
+returns-2 : tie.Need-returns-2 Inv-loop μ-loop
+unfolding isScriptOf
+returns-2 c =
+    let script = c .before .before .before .before .before .before .before .args .script .now in
+    let unknown = rw (c .before .before .record-at .ensures) at (sym (c .before .is-record .ensures) ∙ not-true _ (c .if2 .taken)) in
+    rw (
+      eq-eqb _ _ (c .before .before .before .before .before .if1 .left),
+      none-below (λ k. isRecordOf (recordOf script k)) _ (c .before .before .before .before .loop .i) (c .before .before .before .loop-test .taken) unknown,
+    )
+
+loop-again : tie.Need-loop-again Inv-loop μ-loop
+unfolding isScriptOf
+loop-again c =
+    let known = rw (c .before .before .record-at .ensures) at (sym (c .before .is-record .ensures) ∙ not-false _ (c .if2 .left)) in
+    (omega arith, rw (add-one (c .before .before .before .before .loop .i), c .before .before .before .before .loop .inv .1) known)
+
+returns-3 : tie.Need-returns-3 Inv-loop μ-loop
+unfolding isScriptOf
+returns-3 c =
+    let e : length (c .before .before .before .before .args .script .now) / 8 ≡ c .before .loop .i = omega (arith, c .loop-test .left, c .before .loop .inv .0) in
+    rw (eq-eqb _ _ (c .before .before .if1 .left), e, c .before .loop .inv .1)
+
 pub is-script-spec : {M : Type 1} → statement M
 unfolding isScriptOf
 is-script-spec =
@@ -30,8 +52,8 @@ is-script-spec =
     (λ c. (omega arith, refl))
     (λ c κs. omega arith)
     (λ c κs. search needs)
-    (λ c. rw (eq-eqb _ _ (c .before .before .before .before .before .if1 .left), none-below (λ k. isRecordOf (recordOf (c .before .before .before .before .before .before .before .args .script .now) k)) _ (c .before .before .before .before .loop .i) (c .before .before .before .loop-test .taken) (rw (c .before .before .record-at .ensures) at (sym (c .before .is-record .ensures) ∙ not-true _ (c .if2 .taken)))))
+    returns-2
     (λ c. omega arith)
     (λ c. omega arith)
-    (λ c. (omega arith, rw (add-one (c .before .before .before .before .loop .i), c .before .before .before .before .loop .inv .1) (rw (c .before .before .record-at .ensures) at (sym (c .before .is-record .ensures) ∙ not-false _ (c .if2 .left)))))
-    (λ c. let e : length (c .before .before .before .before .args .script .now) / 8 ≡ c .before .loop .i = omega (arith, c .loop-test .left, c .before .loop .inv .0) in rw (eq-eqb _ _ (c .before .before .if1 .left), e, c .before .loop .inv .1)))
+    loop-again
+    returns-3)
