@@ -18,13 +18,13 @@ use Rattle.geometry.specs.Banks.{inRangeOf, bankWordsOf}
 use Rattle.geometry.specs.Decline.{acceptedOf}
 use Rattle.geometry.specs.Windows.{quadIndexOf}
 use Rattle.device.specs.declared.record.Device.{Device}
-use Rattle.device.specs.declared.store.Stored.{Stored}
-use Rattle.device.specs.declared.store.RegisterRead.{RegisterRead}
+use Rattle.access.specs.declared.store.Stored.{Stored}
+use Rattle.access.specs.declared.store.RegisterRead.{RegisterRead}
 use Rattle.device.specs.Record.{running, bfswap}
 use Rattle.device.specs.Fields.{wantedOf}
 use Rattle.device.specs.Possible.{possibleOf}
-use Rattle.device.specs.Store.{storeDeclineOf, storeAcceptedOf, storeOf, readDeclineOf, registerReadOf}
-use Rattle.device.proofs.StoreLaws.{store-possible, read-leaves-possible}
+use Rattle.access.specs.Store.{storeDeclineOf, storeAcceptedOf, storeOf, readDeclineOf, registerReadOf}
+use Rattle.access.proofs.StoreLaws.{store-possible, read-leaves-possible}
 use Rattle.flash.specs.declared.effect.Effect.{Effect}
 use Rattle.flash.specs.Effect.{stepLocationOf, effectOf}
 use Rattle.flash.specs.Step.{After, after, stepDeclineOf, advanceOf, oneAfter, twoAfter, stepAcceptedOf, stepOf}

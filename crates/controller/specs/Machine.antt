@@ -17,7 +17,7 @@ use Rattle.device.specs.Registers.{withinOf}
 use Rattle.device.specs.Record.{registerOf, powerOn, running, bfswap}
 use Rattle.device.specs.Protection.{protectedOf}
 use Rattle.device.specs.Possible.{possibleOf}
-use Rattle.device.specs.Store.{storeOf, registerReadOf}
+use Rattle.access.specs.Store.{storeOf, registerReadOf}
 use Rattle.flash.specs.Effect.{stepLocationOf, effectOf}
 use Rattle.flash.specs.Step.{After, stepOf}
 use Rattle.controller.specs.Reset.{comparedOf, resetOf}

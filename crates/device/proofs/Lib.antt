@@ -1,10 +1,5 @@
 pub mod OperationLaws
 pub mod FieldLaws
-pub mod AcceptedLaws
-pub mod StartUpLaws
 pub mod PossibleLaws
-pub mod StoreLaws
-pub mod StoreEquations
-pub mod ChangeLaws
 pub mod TableLaws
 pub mod Bench

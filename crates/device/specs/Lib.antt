@@ -5,6 +5,4 @@ pub mod Operation
 pub mod Possible
 pub mod Fields
 pub mod Launch
-pub mod Store
-pub mod StartUp
 pub mod Bench

@@ -1,4 +1,4 @@
-// The device record: registers, protection, what decline 3 takes, stores with the launch, register reads, start-up.
+// The device record: registers, protection, what decline 3 takes, which fields take a stored value, the launch.
 pub mod fields;
 pub mod launch;
 pub mod operation;
@@ -6,5 +6,3 @@ pub mod possible;
 pub mod protection;
 pub mod record;
 pub mod registers;
-pub mod start_up;
-pub mod store;

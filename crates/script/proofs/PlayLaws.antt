@@ -17,10 +17,10 @@ use Rattle.geometry.specs.declared.decline.Decline.{Decline}
 use Rattle.geometry.specs.Banks.{inRangeOf}
 use Rattle.geometry.specs.Decline.{numberOf, acceptedOf}
 use Rattle.device.specs.declared.record.Device.{Device}
-use Rattle.device.specs.declared.store.Stored.{Stored}
+use Rattle.access.specs.declared.store.Stored.{Stored}
 use Rattle.device.specs.Record.{running}
 use Rattle.device.specs.Possible.{possibleOf}
-use Rattle.device.specs.Store.{hasFormOf, storeDeclineOf, storeAcceptedOf, storeOf}
+use Rattle.access.specs.Store.{hasFormOf, storeDeclineOf, storeAcceptedOf, storeOf}
 use Rattle.flash.specs.Lengths.{lengthsFitOf}
 use Rattle.flash.specs.Step.{After, stepDeclineOf, stepOf}
 use Rattle.controller.specs.Reset.{resetDeclineOf, resetOf}

@@ -8,8 +8,8 @@ use Rattle.words.specs.Word.{pick}
 use Rattle.geometry.specs.declared.banks.Geometry.{Geometry}
 use Rattle.geometry.specs.declared.decline.Decline.{Decline}
 use Rattle.geometry.specs.Decline.{numberOf}
-use Rattle.device.specs.declared.store.Stored.{Stored}
-use Rattle.device.specs.Store.{storeOf}
+use Rattle.access.specs.declared.store.Stored.{Stored}
+use Rattle.access.specs.Store.{storeOf}
 use Rattle.flash.specs.Step.{After, after, stepOf}
 use Rattle.controller.specs.Reset.{resetOf}
 use Rattle.controller.specs.Machine.{State, left, Operation}

@@ -1,0 +1,49 @@
+-- What an accepted store, register read or start-up tells: the geometry is in range, the device possible, and so on.
+-- Assumes nothing.
+use mathlib.Core.Path.{_≡_, refl}
+use mathlib.Core.Bool.{true, false}
+use Prim.Native.Nat.{ℕ}
+use Rattle.geometry.specs.declared.banks.Geometry.{Geometry}
+use Rattle.geometry.specs.declared.decline.Decline.{Decline}
+use Rattle.geometry.specs.Banks.{inRangeOf, InRange}
+use Rattle.geometry.specs.Decline.{acceptedOf}
+use Rattle.geometry.proofs.DeclineLaws.{held, passed}
+use Rattle.geometry.proofs.SizeLaws.{in-range}
+use Rattle.device.specs.declared.record.Device.{Device}
+use Rattle.device.specs.Record.{running}
+use Rattle.device.specs.Possible.{possibleOf}
+use Rattle.access.specs.Store.{hasFormOf, storeDeclineOf, readDeclineOf}
+use Rattle.access.specs.StartUp.{startUpDeclineOf}
+
+-- a call on a device that can be at rest
+pub record AtRest (g : Geometry) (d : Device) : Type 0 where
+  pub listed : inRangeOf g ≡ true
+  pub range : InRange g
+  pub possible : possibleOf g d ≡ true
+  pub idle : running d ≡ false
+
+pub store-at-rest : (g : Geometry) (d : Device) (r form : ℕ) → acceptedOf (storeDeclineOf g d r form) ≡ true
+    → AtRest g d × (hasFormOf r form ≡ true)
+unfolding storeDeclineOf
+store-at-rest g d r form h =
+    let s0 = held (inRangeOf g) _ Decline.Geometry refl h in
+    let s1 = held (possibleOf g d) _ Decline.Device refl (s0 .1) in
+    let s2 = held (hasFormOf r form) _ Decline.Register refl (s1 .1) in
+    let s3 = passed (running d) Decline.Running Decline.Accepted refl (s2 .1) in
+    (record { listed = s0 .0; range = in-range g (s0 .0); possible = s1 .0; idle = s3 .0 }, s2 .0)
+
+pub start-up-at-rest : (g : Geometry) (d : Device) → acceptedOf (startUpDeclineOf g d) ≡ true → AtRest g d
+unfolding startUpDeclineOf
+start-up-at-rest g d h =
+    let s0 = held (inRangeOf g) _ Decline.Geometry refl h in
+    let s1 = held (possibleOf g d) _ Decline.Device refl (s0 .1) in
+    let s2 = passed (running d) Decline.Running Decline.Accepted refl (s1 .1) in
+    record { listed = s0 .0; range = in-range g (s0 .0); possible = s1 .0; idle = s2 .0 }
+
+pub read-possible : (g : Geometry) (d : Device) (r : ℕ) → acceptedOf (readDeclineOf g d r) ≡ true
+    → InRange g × (possibleOf g d ≡ true)
+unfolding readDeclineOf
+read-possible g d r h =
+    let s0 = held (inRangeOf g) _ Decline.Geometry refl h in
+    let s1 = held (possibleOf g d) _ Decline.Device refl (s0 .1) in
+    (in-range g (s0 .0), s1 .0)

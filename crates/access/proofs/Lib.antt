@@ -1,0 +1,5 @@
+pub mod AcceptedLaws
+pub mod StartUpLaws
+pub mod StoreLaws
+pub mod StoreEquations
+pub mod ChangeLaws

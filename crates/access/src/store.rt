@@ -1,0 +1,196 @@
+// Stores and register reads.
+ghost use mathlib.Core.Path.{_≡_};
+ghost use Rattle.geometry.specs.Banks.{InRange};
+ghost use Rattle.access.specs.Store.{hasFormOf, storeDeclineOf, launchesOf, conStoreOf, appliedOf, storeAcceptedOf, storeOf, readDeclineOf, registerReadOf};
+use device::fields::bwp_takes;
+use device::fields::con_takes;
+use device::fields::con2_takes;
+use device::fields::key_next;
+use device::fields::pwp_takes;
+use device::fields::wanted;
+use device::launch::Launched;
+use device::launch::launch;
+use device::possible::is_possible;
+use device::record::Device;
+use device::record::register;
+use device::registers::Nvmcon;
+use geometry::banks::Geometry;
+use geometry::banks::in_range;
+use geometry::decline::Decline;
+use words::word::has;
+use words::word::merge;
+
+// The answer to a store. Where it is declined the device is as before and there is no event.
+pub struct Stored {
+    pub decline: Decline,
+    pub device: Device,
+    pub event: bool,
+}
+
+// The answer to a register read. Where it is declined the device is as before and the value is 0.
+pub struct RegisterRead {
+    pub decline: Decline,
+    pub value: u32,
+    pub device: Device,
+}
+
+// Whether there is such a register and it has such a form.
+fn has_form(number: u32, form: u32) -> bool
+    ensures { λ r. ⌜ r ≡ hasFormOf number form ⌝ }
+{
+    if 10 < number {
+        return false;
+    }
+    if 3 < form {
+        return false;
+    }
+    if number == 1 {
+        return form == 0;
+    }
+    true
+}
+
+fn store_decline(g: Geometry, d: Device, number: u32, form: u32) -> Decline
+    ensures { λ r. ⌜ r ≡ storeDeclineOf g d number form ⌝ }
+{
+    if !in_range(g) {
+        return Decline::Geometry;
+    }
+    if !is_possible(g, d) {
+        return Decline::Device;
+    }
+    if !has_form(number, form) {
+        return Decline::Register;
+    }
+    if has(d.nvmcon.0, Nvmcon::WR) {
+        return Decline::Running;
+    }
+    Decline::Accepted
+}
+
+// Whether a store to NVMCON launches.
+fn launches(d: Device, w: u32) -> bool
+    ensures { λ r. ⌜ r ≡ launchesOf d w ⌝ }
+{
+    if !has(w, Nvmcon::WR) {
+        return false;
+    }
+    if !has(d.nvmcon.0, Nvmcon::WREN) {
+        return false;
+    }
+    d.keystep == 3
+}
+
+// NVMCON after a store, and whether there was an event.
+fn con_store(g: Geometry, d: Device, w: u32) -> Launched
+    requires { ⌜ InRange g ⌝ }
+    ensures { λ r. ⌜ r ≡ conStoreOf g d w ⌝ }
+{
+    let mut taken = d;
+    let con = merge(con_takes(d), w, d.nvmcon.0);
+    taken.nvmcon.0 = con;
+    if launches(d, w) {
+        return launch(g, taken);
+    }
+    Launched {
+        nvmcon: taken.nvmcon.0,
+        event: false,
+    }
+}
+
+// The device after a store to another register than NVMCON.
+fn applied(d: Device, number: u32, w: u32) -> Device
+    ensures { λ r. ⌜ r ≡ appliedOf d number w ⌝ }
+{
+    let mut e = d;
+    e.keystep = 0;
+    match number {
+        1 => e.keystep = key_next(d.keystep, w),
+        2 => e.nvmaddr = w,
+        3 => e.nvmdata[0] = w,
+        4 => e.nvmdata[1] = w,
+        5 => e.nvmdata[2] = w,
+        6 => e.nvmdata[3] = w,
+        7 => e.nvmsrcaddr = w,
+        8 => e.nvmpwp.0 = merge(pwp_takes(d), w, d.nvmpwp.0),
+        9 => e.nvmbwp.0 = merge(bwp_takes(d), w, d.nvmbwp.0),
+        10 => e.nvmcon2.0 = merge(con2_takes(d), w, d.nvmcon2.0),
+        _ => {}
+    }
+    e
+}
+
+// A store that is not declined.
+fn store_accepted(g: Geometry, d: Device, number: u32, form: u32, value: u32) -> Stored
+    requires { ⌜ InRange g ⌝ }
+    ensures { λ r. ⌜ r ≡ storeAcceptedOf g d number form value ⌝ }
+{
+    let w = wanted(form, register(d, number), value);
+    if number == 0 {
+        let l = con_store(g, d, w);
+        let mut after = d;
+        after.keystep = 0;
+        after.nvmcon.0 = l.nvmcon;
+        return Stored {
+            decline: Decline::Accepted,
+            device: after,
+            event: l.event,
+        };
+    }
+    Stored {
+        decline: Decline::Accepted,
+        device: applied(d, number, w),
+        event: false,
+    }
+}
+
+// A store of a form and a value to a register.
+pub fn store(g: Geometry, d: Device, number: u32, form: u32, value: u32) -> Stored
+    ensures { λ r. ⌜ r ≡ storeOf g d number form value ⌝ }
+{
+    let decline = store_decline(g, d, number, form);
+    if decline.is_accepted() {
+        return store_accepted(g, d, number, form, value);
+    }
+    Stored {
+        decline,
+        device: d,
+        event: false,
+    }
+}
+
+fn read_decline(g: Geometry, d: Device, number: u32) -> Decline
+    ensures { λ r. ⌜ r ≡ readDeclineOf g d number ⌝ }
+{
+    if !in_range(g) {
+        return Decline::Geometry;
+    }
+    if !is_possible(g, d) {
+        return Decline::Device;
+    }
+    if 10 < number {
+        return Decline::Register;
+    }
+    Decline::Accepted
+}
+
+// A read of a register: it shuts the key.
+pub fn register_read(g: Geometry, d: Device, number: u32) -> RegisterRead
+    ensures { λ r. ⌜ r ≡ registerReadOf g d number ⌝ }
+{
+    let decline = read_decline(g, d, number);
+    if decline.is_accepted() {
+        let mut shut = d;
+        shut.keystep = 0;
+        return RegisterRead {
+            decline,
+            value: register(d, number),
+            device: shut,
+        };
+    }
+    RegisterRead {
+        decline,
+        value: 0,
+        device: d,
+    }
+}
