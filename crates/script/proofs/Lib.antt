@@ -4,3 +4,4 @@ pub mod LineLaws
 pub mod PlayLaws
 pub mod ProgramLaws
 pub mod MachineLaws
+pub mod WorkedExample

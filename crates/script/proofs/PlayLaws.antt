@@ -1,16 +1,13 @@
 -- What a play prints.
 -- Assumes nothing.
 use mathlib.Core.Path.{_≡_, refl, ap}
-use mathlib.Core.Bool.{Bool, true, false, and-false}
+use mathlib.Core.Bool.{true}
 use Prim.Native.Nat.{ℕ, zero, suc, _+_, _≤_, _<_}
-use native.Mathlib.Nat.{not-suc-le-zero}
-use native.Mathlib.Decide.{decLe}
 use native.Mathlib.Omega.{arith}
 use mathlib.Core.List.{List, _++_}
 use lib.Dec.{eqb, ltb}
 use lib.ListN.{length, length-append}
 use lib.Seq.{sets}
-use Rattle.words.specs.Word.{allBelow}
 use Rattle.words.proofs.PickLaws.{pick-both}
 use Rattle.geometry.specs.declared.banks.Geometry.{Geometry}
 use Rattle.geometry.specs.declared.decline.Decline.{Decline}
@@ -32,15 +29,6 @@ use Rattle.script.specs.Lines.{linesLengthOf}
 use Rattle.script.specs.Play.{recordAfterOf, stateOf, recordLineOf, linesOf, playback, playedOf}
 use Rattle.script.proofs.BufferLaws.{sets-after, sets-front}
 use Rattle.script.proofs.LineLaws.{line-length}
-
--- where one fails, not all hold
-pub none-below : (p : ℕ → Bool) (n k : ℕ) → k < n → p k ≡ false → allBelow p n ≡ false
-none-below p zero k l h = absurd (not-suc-le-zero l)
-none-below p (suc n) k l h = go (decLe (suc k) n) (none-below p n k)
-  where
-    go : Dec (k < n) → (k < n → p k ≡ false → allBelow p n ≡ false) → allBelow p (suc n) ≡ false
-    go (yes i) below = rw (below i h)
-    go (no i) below = let e : k ≡ n = omega arith in rw (rw e at h) (and-false (allBelow p n))
 
 -- ---- a record's answer has one digit
 

@@ -3,3 +3,4 @@ pub mod Digits
 pub mod Lines
 pub mod Play
 pub mod Program
+pub mod WorkedExample

@@ -1,6 +1,6 @@
 -- Choosing by a test. Assumes nothing.
 use mathlib.Core.Path.{_≡_, refl}
-use mathlib.Core.Bool.{Bool, true, false, _&&_}
+use mathlib.Core.Bool.{Bool, true, false, _&&_, and-false}
 use Prim.Native.Nat.{ℕ, zero, suc, _<_}
 use native.Mathlib.Nat.{not-suc-le-zero}
 use native.Mathlib.Decide.{decLe}
@@ -29,3 +29,12 @@ all-below p (suc n) h k l = go (decLe (suc k) n) (all-below p n (and-both (allBe
     go : Dec (k < n) → (k < n → p k ≡ true) → p k ≡ true
     go (yes i) below = below i
     go (no i) below = let e : k ≡ n = omega arith in rw e (and-both (allBelow p n) (p n) h .1)
+
+-- where it fails of one, it does not hold of every number below n
+pub not-all-below : (p : ℕ → Bool) (n k : ℕ) → k < n → p k ≡ false → allBelow p n ≡ false
+not-all-below p zero k l h = absurd (not-suc-le-zero l)
+not-all-below p (suc n) k l h = go (decLe (suc k) n) (not-all-below p n k)
+  where
+    go : Dec (k < n) → (k < n → p k ≡ false → allBelow p n ≡ false) → allBelow p (suc n) ≡ false
+    go (yes i) below = rw (below i h)
+    go (no i) below = let e : k ≡ n = omega arith in rw (rw e at h) (and-false (allBelow p n))

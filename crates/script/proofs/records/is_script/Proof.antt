@@ -7,8 +7,8 @@ use mathlib.Core.Bool.{true}
 use mathlib.Core.Path.{_∙_, _≡_, refl, sym}
 use native.Mathlib.Numerals.{add-one}
 use native.Mathlib.Omega.{arith}
-use Rattle.script.proofs.PlayLaws.{none-below}
 use Rattle.script.specs.Records.{recordOf, isRecordOf, isScriptOf}
+use Rattle.words.proofs.PickLaws.{not-all-below}
 use Rattle.words.specs.Word.{allBelow}
 use Rattle.script.proofs.records.is_script.Statement.{statement}
 use Rattle.script.proofs.records.is_script.Tie as tie
@@ -26,7 +26,7 @@ returns-2 c =
     let unknown = rw (c .before .before .record-at .ensures) at (sym (c .before .is-record .ensures) ∙ not-true _ (c .if2 .taken)) in
     rw (
       eq-eqb _ _ (c .before .before .before .before .before .if1 .left),
-      none-below (λ k. isRecordOf (recordOf script k)) _ (c .before .before .before .before .loop .i) (c .before .before .before .loop-test .taken) unknown,
+      not-all-below (λ k. isRecordOf (recordOf script k)) _ (c .before .before .before .before .loop .i) (c .before .before .before .loop-test .taken) unknown,
     )
 
 loop-again : tie.Need-loop-again Inv-loop μ-loop
