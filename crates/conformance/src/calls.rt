@@ -1,17 +1,37 @@
 // From a call's inputs to its answer.
 ghost use Prim.Native.Nat.{_≤_, _<_};
 ghost use lib.ListN.{length};
-ghost use Rattle.conformance.specs.Cases.{Lent};
-use crate::answer::Answer;
-use crate::bank_calls::flash_read_answer;
-use crate::bank_calls::lower_bank_answer;
-use crate::bank_calls::page_answer;
-use crate::cases::Case;
-use crate::cases::take_case;
-use crate::changing_calls::reset_answer;
-use crate::changing_calls::step_answer;
-use crate::device_calls::device_answer;
+ghost use Rattle.cases.specs.Cases.{Lent};
 use crate::names::Call;
+use answers::bank_calls::flash_read_answer;
+use answers::bank_calls::lower_bank_answer;
+use answers::bank_calls::page_answer;
+use answers::changing_calls::reset_answer;
+use answers::changing_calls::step_answer;
+use answers::device_calls::compare_answer;
+use answers::device_calls::possible_answer;
+use answers::device_calls::protected_answer;
+use answers::device_calls::register_read_answer;
+use answers::device_calls::start_up_answer;
+use answers::device_calls::store_answer;
+use cases::answer::Answer;
+use cases::cases::Case;
+use cases::cases::take_case;
+
+// What a call that lends no list gives for its numbers.
+fn device_answer(call: Call, words: [u32; 20]) -> Answer
+    ensures { λ r. ⌜ r .count ≤ 20 ⌝ }
+{
+    match call {
+        Call::Compare => compare_answer(words),
+        Call::Possible => possible_answer(words),
+        Call::Protected => protected_answer(words),
+        Call::Store => store_answer(words),
+        Call::RegisterRead => register_read_answer(words),
+        Call::StartUp => start_up_answer(words),
+        _ => Answer::no_case(),
+    }
+}
 
 // What a call that changes no bank gives.
 fn still_answer<'a>(

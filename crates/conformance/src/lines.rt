@@ -2,15 +2,15 @@
 ghost use Prim.Native.Nat.{_≤_, _<_};
 ghost use lib.ListN.{length};
 ghost use Rattle.io.specs.Counts.{Counts};
-use crate::answer::Answer;
-use crate::bytes::find;
 use crate::calls::call_answer;
-use crate::input::fill;
-use crate::input::keep;
-use crate::input::make_room;
 use crate::names::Call;
-use crate::output::flush;
-use crate::output::put_answer;
+use cases::answer::Answer;
+use cases::bytes::find;
+use cases::input::fill;
+use cases::input::keep;
+use cases::input::make_room;
+use cases::output::flush;
+use cases::output::put_answer;
 
 // How many bytes are held after a turn, and whether the input ended there.
 struct Progress {

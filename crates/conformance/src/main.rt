@@ -1,20 +1,7 @@
 // Reads cases from standard input, one to a line, and writes what each call gives.
-mod answer;
-mod bank_calls;
-mod bytes;
 mod calls;
-mod cases;
-mod changes;
-mod changing_calls;
-mod device_calls;
-mod differences;
-mod input;
 mod lines;
-mod lists;
 mod names;
-mod numbers;
-mod output;
-mod records;
 
 // The longest line that can be a case, with its line feed.
 const LONGEST_LINE: usize = 1048576;

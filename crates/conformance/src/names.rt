@@ -1,6 +1,7 @@
 // The calls by their names, and what each takes.
 ghost use Prim.Native.Nat.{_≤_};
-use crate::bytes::same;
+use cases::bytes::same;
+use cases::cases::Shape;
 
 pub enum Call {
     Compare,
@@ -15,13 +16,6 @@ pub enum Call {
     Reset,
     StartUp,
     Unknown,
-}
-
-// How many numbers a call takes, how many lists after them, and how many numbers after those.
-pub struct Shape {
-    pub front: usize,
-    pub lists: usize,
-    pub back: usize,
 }
 
 fn taking(front: usize, lists: usize, back: usize) -> Shape

@@ -1,0 +1,5 @@
+pub mod Bytes
+pub mod Numbers
+pub mod Output
+pub mod Lists
+pub mod Cases

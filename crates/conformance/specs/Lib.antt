@@ -1,6 +1,0 @@
-pub mod Bytes
-pub mod Numbers
-pub mod Records
-pub mod Output
-pub mod Lists
-pub mod Cases
