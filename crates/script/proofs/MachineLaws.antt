@@ -3,12 +3,16 @@
 use mathlib.Core.Path.{_≡_, refl}
 use mathlib.Core.Bool.{Bool, true, false}
 use mathlib.Core.List.{List, [], _∷_, _++_}
-use Prim.Native.Nat.{ℕ, zero, suc}
+use Prim.Native.Nat.{ℕ, zero, suc, _+_, _*_, _^_, _<_}
+use native.Mathlib.Omega.{arith}
 use lib.Dec.{eqb}
+use lib.ListN.{getD}
+use Rattle.words.proofs.PickLaws.{pick-both}
 use Rattle.geometry.specs.declared.banks.Geometry.{Geometry}
-use Rattle.controller.specs.Machine.{State, left, Operation, transitionOf, runOf}
+use Rattle.controller.specs.Machine.{State, left, Operation, transitionOf, runOf, BringsWord, BringWords, Sound}
+use Rattle.controller.proofs.Machine.{controller}
 use Rattle.script.specs.declared.records.Record.{Record}
-use Rattle.script.specs.Records.{recordOf}
+use Rattle.script.specs.Records.{valueOf, recordOf}
 use Rattle.script.specs.Play.{recordAfterOf, stateOf, operationOf, operationsOf}
 
 run-append : (g : Geometry) (s : State) (first other : List Operation) → runOf g s (first ++ other) ≡ runOf g (runOf g s first) other
@@ -33,3 +37,30 @@ play-runs g sram s script (suc i) =
       run-append g s (operationsOf sram script i) (operationOf sram (recordOf script i) ∷ []),
       ← play-runs g sram s script i,
     ) (record-runs g sram (stateOf g sram s script i) (recordOf script i))
+
+-- ---- the play of a script of bytes brings words of 32 bits
+
+-- every element is a byte
+abbrev pub Bytes : List ℕ → Type 0
+Bytes script = (k : ℕ) → getD script k 0 < 256
+
+value-word : (script : List ℕ) → Bytes script → (i : ℕ) → valueOf script i < 2 ^ 32
+unfolding valueOf
+value-word script bytes i = omega (arith, bytes (8 * i + 4), bytes (8 * i + 5), bytes (8 * i + 6), bytes (8 * i + 7))
+
+brings-append : (first : List Operation) (o : Operation) → BringWords first → BringsWord o → BringWords (first ++ (o ∷ []))
+brings-append [] o words word = (word, tt)
+brings-append (p ∷ first) o (word₀, words) word = (word₀, brings-append first o words word)
+
+script-words : (sram script : List ℕ) → Bytes script → (i : ℕ) → BringWords (operationsOf sram script i)
+unfolding recordOf
+script-words sram script bytes zero = tt
+script-words sram script bytes (suc i) =
+    let r = recordOf script i in
+    brings-append (operationsOf sram script i) (operationOf sram r) (script-words sram script bytes i)
+    (pick-both BringsWord (eqb (r .kind) 0) (value-word script bytes i) (pick-both BringsWord (eqb (r .kind) 1) tt tt))
+
+-- so from a possible device over banks of the geometry's length every play leaves one
+pub play-sound : (g : Geometry) (sram : List ℕ) (s : State) (script : List ℕ) → Bytes script → Sound g s → (i : ℕ) → Sound g (stateOf g sram s script i)
+play-sound g sram s script bytes sound i =
+    rw (play-runs g sram s script i) (controller .stays-sound g s sound (operationsOf sram script i) (script-words sram script bytes i))

@@ -1,4 +1,5 @@
 // Numbers as the bytes of their digits.
+// What asks for room in the buffer is no call of the script: play and print judge the room first.
 ghost use mathlib.Core.Path.{_≡_};
 ghost use Prim.Native.Nat.{_+_, _≤_, _<_};
 ghost use lib.ListN.{length};

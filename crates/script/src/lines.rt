@@ -1,4 +1,5 @@
 // The lines that a play prints, in a lent buffer.
+// What asks for room there is no call of the script: play and print judge the room first.
 ghost use mathlib.Core.Path.{_≡_};
 ghost use Prim.Native.Nat.{_+_, _≤_, _<_};
 ghost use lib.Dec.{leb};

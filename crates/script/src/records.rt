@@ -1,4 +1,5 @@
 // Records of 8 bytes, and decline 14.
+// What asks for a whole record is no call of the script: its callers count the records first.
 ghost use mathlib.Core.Path.{_≡_};
 ghost use Prim.Native.Nat.{_+_, _*_, _≤_, _<_};
 ghost use lib.ListN.{length};
