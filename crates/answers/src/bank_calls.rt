@@ -1,4 +1,5 @@
 // The calls that only read lent banks.
+// What asks for a bank whose indices are words is no call of the device: its callers show it.
 ghost use Prim.Native.Nat.{_≤_, _<_};
 ghost use lib.ListN.{length};
 use crate::records::device_of;

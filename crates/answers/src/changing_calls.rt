@@ -1,4 +1,5 @@
 // The calls that change lent banks. The SRAM stands in the spare buffer, where the banks as they were come later.
+// What asks for room in the spare buffer is no call of the device: its callers show it.
 ghost use Prim.Native.Nat.{_≤_};
 ghost use Rattle.cases.specs.Cases.{Lent};
 use crate::records::device_of;

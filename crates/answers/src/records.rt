@@ -1,4 +1,5 @@
 // The geometry and the device as numbers of a case.
+// What asks for room in an answer is no call of the device: its callers show it.
 ghost use mathlib.Core.Path.{_≡_};
 ghost use Prim.Native.Nat.{_+_, _≤_};
 ghost use Rattle.answers.specs.Records.{geometryOf, deviceOf};

@@ -1,4 +1,5 @@
 // What a call gives, as numbers.
+// What asks for room for a number is no call of the device: its callers show it.
 ghost use mathlib.Core.Path.{_≡_};
 ghost use Prim.Native.Nat.{_+_, _<_};
 

@@ -1,4 +1,5 @@
 // Bytes in a slice.
+// What asks for a position within the bytes is no call of the device: its callers show it.
 ghost use mathlib.Core.Path.{_≡_};
 ghost use mathlib.Core.Bool.{true};
 ghost use Prim.Native.Nat.{_≤_};

@@ -1,4 +1,5 @@
 // The inputs of a call: numbers, lent lists, and numbers again.
+// What asks for a shape is no call of the device: its callers show it.
 ghost use Prim.Native.Nat.{_≤_};
 ghost use Rattle.cases.specs.Cases.{Read};
 use crate::lists::take_list_if;

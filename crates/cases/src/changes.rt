@@ -1,4 +1,5 @@
 // What a call changed in the banks.
+// What asks for room is no call of the device: its callers show it.
 ghost use Prim.Native.Nat.{_≤_};
 ghost use Rattle.cases.specs.Cases.{Room};
 use crate::answer::Answer;

@@ -1,4 +1,5 @@
 // Where two lists of words differ.
+// What asks for lists of such lengths is no call of the device: its callers show it.
 ghost use mathlib.Core.Path.{_≡_};
 ghost use mathlib.Core.Bool.{true};
 ghost use Prim.Native.Nat.{_≤_};

@@ -5,6 +5,6 @@ pub mod cases;
 pub mod changes;
 pub mod differences;
 pub mod input;
-pub mod lists;
-pub mod numbers;
+mod lists;
+mod numbers;
 pub mod output;

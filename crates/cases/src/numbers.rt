@@ -1,4 +1,5 @@
 // Decimal numbers in a line: each stands after one blank, and ends at the next blank or the end.
+// What asks for at most 20 numbers is no call of the device: its callers show it.
 ghost use mathlib.Core.Path.{_≡_};
 ghost use Prim.Native.Nat.{_≤_};
 ghost use Rattle.cases.specs.Numbers.{appendedOf, numberOf};
@@ -59,7 +60,9 @@ fn number(digits: &[u8]) -> u64
 }
 
 // The number after the blank at a position.
-fn number_at(line: &[u8], at: usize) -> Parsed {
+fn number_at(line: &[u8], at: usize) -> Parsed
+    ensures { λ r. ⌜ at ≤ r .next ⌝ }
+{
     if line.len() <= at {
         return Parsed {
             value: NONE,
@@ -72,9 +75,10 @@ fn number_at(line: &[u8], at: usize) -> Parsed {
     Parsed { value, next: end }
 }
 
-// So many numbers from a position on.
+// So many numbers from a position on. It gives a position that is no earlier.
 pub fn take(line: &[u8], at: usize, count: usize) -> Taken
     requires { ⌜ count ≤ 20 ⌝ }
+    ensures { λ r. ⌜ at ≤ r .next ⌝ }
 {
     let mut words = [0u32; 20];
     let mut next = at;

@@ -1,16 +1,20 @@
 // Standard output, by way of a buffer whose first bytes are used. Each function that puts something gives how many are
 // used then; a full buffer is written out first.
+// What asks for bytes within the buffer is no call of the device: its callers show it.
+ghost use mathlib.Core.Path.{_≡_};
 ghost use Prim.Native.Nat.{_≤_};
 ghost use lib.ListN.{length};
 ghost use Rattle.cases.specs.Output.{Used};
 use crate::answer::Answer;
 use libc::STDOUT_FILENO;
 
-// Writes out the bytes that are used.
-pub fn flush(out: &[u8], used: usize)
+// Writes out the bytes that are used: none are then.
+pub fn flush(out: &[u8], used: usize) -> usize
     requires { ⌜ used ≤ length (now out) ⌝ }
+    ensures { λ r. ⌜ r ≡ 0 ⌝ }
 {
     io::write_all(STDOUT_FILENO, &out[..used]);
+    0
 }
 
 fn put_byte(out: &mut [u8], used: usize, byte: u8) -> usize

@@ -14,6 +14,7 @@ use Rattle.controller.proofs.Machine.{controller}
 use Rattle.script.specs.declared.records.Record.{Record}
 use Rattle.script.specs.Records.{valueOf, recordOf}
 use Rattle.script.specs.Play.{recordAfterOf, stateOf, operationOf, operationsOf}
+use Rattle.script.specs.Program.{smallest, firstBank, erasedBank, startOf}
 
 run-append : (g : Geometry) (s : State) (first other : List Operation) → runOf g s (first ++ other) ≡ runOf g (runOf g s first) other
 run-append g s [] other = refl
@@ -64,3 +65,7 @@ script-words sram script bytes (suc i) =
 pub play-sound : (g : Geometry) (sram : List ℕ) (s : State) (script : List ℕ) → Bytes script → Sound g s → (i : ℕ) → Sound g (stateOf g sram s script i)
 play-sound g sram s script bytes sound i =
     rw (play-runs g sram s script i) (controller .stays-sound g s sound (operationsOf sram script i) (script-words sram script bytes i))
+
+-- so does every play of the program
+pub program-sound : (script : List ℕ) → Bytes script → (i : ℕ) → Sound smallest (stateOf smallest [] startOf script i)
+program-sound script bytes i = play-sound smallest [] startOf script bytes (controller .power-on smallest firstBank erasedBank refl refl) i

@@ -12,7 +12,7 @@ use crate::digits::width;
 
 const BLANK: u8 = 32;
 
-const LINE_FEED: u8 = 10;
+pub const LINE_FEED: u8 = 10;
 
 // Writes digits and the byte that ends them; gives the position after it.
 fn put_column(out: &mut [u8], at: usize, number: usize, base: usize, count: usize, end: u8) -> usize

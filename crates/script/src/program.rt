@@ -3,6 +3,7 @@ ghost use mathlib.Core.Path.{_≡_};
 ghost use mathlib.Core.List.{[]};
 ghost use Rattle.script.specs.Play.{playOf};
 ghost use Rattle.script.specs.Program.{smallest, startOf, declineLine, printout, takenOf, fittedOf, printOf};
+use crate::lines::LINE_FEED;
 use crate::lines::put_decimal;
 use crate::play::Played;
 use crate::play::play;
@@ -20,8 +21,6 @@ pub const OUTPUT: usize = 147456;
 const BANK: usize = 64;
 
 const SEQUENCE: usize = 28;
-
-const LINE_FEED: u8 = 10;
 
 // The answer to a print. Where the output does not fit into the buffer, `printed` is false and the buffer is as before.
 pub struct Printed {

@@ -7,7 +7,7 @@ use Rattle.cases.proofs.numbers.take.Statement.{statement}
 use Rattle.cases.proofs.numbers.take.Tie as tie
 
 abbrev Inv-loop : tie.InvT-loop
-Inv-loop line at count words₀ next₀ i₀ words next i = (i ≤ count) × (length words ≡ 20)
+Inv-loop line at count words₀ next₀ i₀ words next i = (i ≤ count) × (length words ≡ 20) × (at ≤ next)
 
 abbrev μ-loop : tie.MeasureT-loop
 μ-loop line at count words₀ next₀ i₀ words next i = count - i
@@ -20,11 +20,11 @@ take-spec =
     μ-loop
     (λ c. omega arith)
     (λ c κs. tt)
-    (λ c. tt)
+    (λ c. omega arith)
     (λ c. omega arith)
     (λ c. omega arith)
     (λ c. omega arith)
     (λ c. omega arith)
     (λ c. omega arith)
     (λ c. simp length-set (omega arith))
-    (λ c. tt))
+    (λ c. omega arith))

@@ -25,7 +25,7 @@ abbrev μ-loop : tie.MeasureT-loop
 put-line-requires : tie.Need-put-line-requires Inv-loop μ-loop
 put-line-requires c κs =
     let loop = c .before .before .before .before .before .before .before .before .before .before .before .before .loop in
-    let more = length-grows (suc (loop .i)) (length (c .before .before .before .before .before .before .before .before .before .before .before .before .before .before .before .before .before .before .args .script .now) / 8) (c .before .before .before .before .before .before .before .before .before .before .before .loop-test .taken) in (
+    let more = length-grows (suc (loop .i)) (length (c .before .before .before .before .before .before .before .before .before .before .before .before .before .before .before .before .before .before .args .script .now) / 8) (omega arith) in (
       rw (c .number .ensures) (answer-digit _ _ _ _ _ (c .before .before .before .before .before .before .before .play-record .ensures)),
       omega (arith, loop .inv .1 .counted, loop .inv .4, more, c .before .before .before .before .before .before .before .before .before .before .before .before .before .before .before .before .before .before .pre),
     )
