@@ -2,6 +2,7 @@
 use borrow.Author.Tests.{eq-eqb, ne-eqb, le-ltb, lt-ltb, not-true, not-false}
 use mathlib.Core.Path.{sym, _∙_}
 use borrow.Author.Needs.{needs}
+use native.Mathlib.Omega.{arith}
 use Rattle.geometry.proofs.SizeLaws.{in-range}
 use Rattle.controller.specs.Parts.{pageDeclineOf}
 use Rattle.controller.proofs.parts.page_decline.Statement.{statement}
@@ -27,12 +28,12 @@ page-decline-spec =
       ← c .before .before .before .bank-words .ensures,
       eq-eqb _ _ (c .before .before .if2 .left),
       ← c .before .pages .ensures,
-      le-ltb _ _ (c .if3 .taken),
+      le-ltb (c .before .before .before .before .before .before .before .args .page) (c .before .pages .result) (omega (arith, c .if3 .taken)),
     ))
     (λ c. rw (
       sym (c .before .before .before .before .before .in-range .ensures) ∙ not-false _ (c .before .before .before .before .if1 .left),
       ← c .before .before .before .bank-words .ensures,
       eq-eqb _ _ (c .before .before .if2 .left),
       ← c .before .pages .ensures,
-      lt-ltb _ _ (c .if3 .left),
+      lt-ltb (c .before .before .before .before .before .before .before .args .page) (c .before .pages .result) (omega (arith, c .if3 .left)),
     )))

@@ -2,6 +2,7 @@
 use borrow.Author.Tests.{le-leb, lt-leb, not-true, not-false}
 use mathlib.Core.Path.{sym, _∙_}
 use borrow.Author.Needs.{needs}
+use native.Mathlib.Omega.{arith}
 use Rattle.device.specs.Possible.{possibleOf}
 use Rattle.device.proofs.possible.is_possible.Statement.{statement}
 use Rattle.device.proofs.possible.is_possible.Tie as tie
@@ -21,7 +22,7 @@ is-possible-spec =
     (λ c. rw (
       sym (c .before .before .before .before .before .is-implemented .ensures) ∙ not-false _ (c .before .before .before .before .if1 .left),
       sym (c .before .before .before .has .ensures) ∙ not-false _ (c .before .before .if2 .left),
-      lt-leb _ _ (c .if3 .taken),
+      lt-leb (c .before .before .before .before .before .before .args .d .keystep) 3 (omega (arith, c .if3 .taken)),
     ))
     (λ c κs. search needs)
     (λ c κs. search needs)
@@ -29,12 +30,12 @@ is-possible-spec =
       c .is-running .ensures,
       sym (c .before .before .before .before .before .before .before .before .is-implemented .ensures) ∙ not-false _ (c .before .before .before .before .before .before .before .if1 .left),
       sym (c .before .before .before .before .before .before .has .ensures) ∙ not-false _ (c .before .before .before .before .before .if2 .left),
-      le-leb _ _ (c .before .before .before .if3 .left),
+      le-leb (c .before .before .before .before .before .before .before .before .before .args .d .keystep) 3 (omega (arith, c .before .before .before .if3 .left)),
       sym (c .before .before .has2 .ensures) ∙ c .before .if4 .taken,
     ))
     (λ c. rw (
       sym (c .before .before .before .before .before .before .before .before .is-implemented .ensures) ∙ not-false _ (c .before .before .before .before .before .before .before .if1 .left),
       sym (c .before .before .before .before .before .before .has .ensures) ∙ not-false _ (c .before .before .before .before .before .if2 .left),
-      le-leb _ _ (c .before .before .before .if3 .left),
+      le-leb (c .before .before .before .before .before .before .before .before .before .args .d .keystep) 3 (omega (arith, c .before .before .before .if3 .left)),
       sym (c .before .before .has2 .ensures) ∙ c .before .if4 .left,
     )))

@@ -3,6 +3,7 @@ use mathlib.Core.Path.{_≡_, refl, sym, ap, _∙_}
 use mathlib.Core.Bool.{Bool, true, false, _&&_}
 use Prim.Native.Nat.{_≤_, _<_, _-_}
 use borrow.Author.Needs.{needs}
+use native.Mathlib.Omega.{arith}
 use borrow.Author.Tests.{le-leb, lt-leb, le-ltb, lt-ltb}
 use Rattle.geometry.specs.Windows.{inWindowOf}
 use Rattle.geometry.proofs.windows.in_window.Statement.{statement}
@@ -23,11 +24,11 @@ in-window-spec =
       ← c .before .before .before .before .window-start .ensures,
       ← c .before .before .window-bytes .ensures,
       le-leb _ _ (c .before .before .before .if1 .left),
-      le-ltb _ _ (c .before .if2 .taken),
+      le-ltb (c .before .before .before .before .before .args .address - c .before .before .before .before .window-start .result) (c .before .before .window-bytes .result) (omega (arith, c .before .if2 .taken)),
     ))
     (λ c. rw (
       ← c .before .before .before .window-start .ensures,
       ← c .before .window-bytes .ensures,
       le-leb _ _ (c .before .before .if1 .left),
-      lt-ltb _ _ (c .if2 .left),
+      lt-ltb (c .before .before .before .before .args .address - c .before .before .before .window-start .result) (c .before .window-bytes .result) (omega (arith, c .if2 .left)),
     )))
