@@ -1,5 +1,3 @@
+pub mod FieldLaws
 pub mod AcceptedLaws
 pub mod StartUpLaws
-pub mod StoreLaws
-pub mod StoreEquations
-pub mod ChangeLaws

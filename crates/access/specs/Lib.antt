@@ -1,2 +1,4 @@
+pub mod Fields
+pub mod Launch
 pub mod Store
 pub mod StartUp

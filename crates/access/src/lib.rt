@@ -1,3 +1,5 @@
-// Accesses of the registers: stores, register reads, start-up.
+// Accesses of the registers: which fields take a stored value, the launch, stores, register reads, start-up.
+mod fields;
+pub mod launch;
 pub mod start_up;
 pub mod store;

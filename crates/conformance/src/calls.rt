@@ -1,22 +1,22 @@
 // From a call's inputs to its answer.
 ghost use Prim.Native.Nat.{_≤_, _<_};
 ghost use lib.ListN.{length};
-ghost use Rattle.cases.specs.Cases.{Lent};
+ghost use Rattle.conformance_cases.specs.Cases.{Lent};
 use crate::names::Call;
-use answers::bank_calls::flash_read_answer;
-use answers::bank_calls::lower_bank_answer;
-use answers::bank_calls::page_answer;
-use answers::changing_calls::reset_answer;
-use answers::changing_calls::step_answer;
-use answers::device_calls::compare_answer;
-use answers::device_calls::possible_answer;
-use answers::device_calls::protected_answer;
-use answers::device_calls::register_read_answer;
-use answers::device_calls::start_up_answer;
-use answers::device_calls::store_answer;
-use cases::answer::Answer;
-use cases::cases::Case;
-use cases::cases::take_case;
+use conformance_answers::bank_calls::flash_read_answer;
+use conformance_answers::bank_calls::lower_bank_answer;
+use conformance_answers::bank_calls::page_answer;
+use conformance_answers::changing_calls::reset_answer;
+use conformance_answers::changing_calls::step_answer;
+use conformance_answers::device_calls::compare_answer;
+use conformance_answers::device_calls::possible_answer;
+use conformance_answers::device_calls::protected_answer;
+use conformance_answers::device_calls::register_read_answer;
+use conformance_answers::device_calls::start_up_answer;
+use conformance_answers::device_calls::store_answer;
+use conformance_cases::answer::Answer;
+use conformance_cases::cases::Case;
+use conformance_cases::cases::take_case;
 
 // What a call that lends no list gives for its numbers.
 fn device_answer(call: Call, words: [u32; 20]) -> Answer

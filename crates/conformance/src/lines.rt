@@ -4,13 +4,13 @@ ghost use lib.ListN.{length};
 ghost use Rattle.io.specs.Counts.{Counts};
 use crate::calls::call_answer;
 use crate::names::Call;
-use cases::answer::Answer;
-use cases::bytes::find;
-use cases::input::fill;
-use cases::input::keep;
-use cases::input::make_room;
-use cases::output::flush;
-use cases::output::put_answer;
+use conformance_cases::answer::Answer;
+use conformance_cases::bytes::find;
+use conformance_cases::input::fill;
+use conformance_cases::input::keep;
+use conformance_cases::input::make_room;
+use conformance_cases::output::flush;
+use conformance_cases::output::put_answer;
 
 // How many bytes are held after a turn, and whether the input ended there.
 struct Progress {

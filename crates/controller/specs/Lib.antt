@@ -1,4 +1,3 @@
 pub mod Reset
 pub mod Read
 pub mod Parts
-pub mod Machine

@@ -1,5 +1,4 @@
 pub mod OperationLaws
-pub mod FieldLaws
 pub mod PossibleLaws
 pub mod TableLaws
 pub mod Bench

@@ -3,6 +3,4 @@ pub mod Record
 pub mod Protection
 pub mod Operation
 pub mod Possible
-pub mod Fields
-pub mod Launch
 pub mod Bench

@@ -1,6 +1,4 @@
-// The device record: registers, protection, what decline 3 takes, which fields take a stored value, the launch.
-pub mod fields;
-pub mod launch;
+// The device record: registers, protection, the operation that NVMOP names, what decline 3 takes.
 pub mod operation;
 pub mod possible;
 pub mod protection;

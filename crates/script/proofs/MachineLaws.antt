@@ -9,8 +9,8 @@ use lib.Dec.{eqb}
 use lib.ListN.{getD}
 use Rattle.words.proofs.PickLaws.{pick-both}
 use Rattle.geometry.specs.declared.banks.Geometry.{Geometry}
-use Rattle.controller.specs.Machine.{State, left, Operation, transitionOf, runOf, BringsWord, BringWords, Sound}
-use Rattle.controller.proofs.Machine.{controller}
+use Rattle.machine.specs.Machine.{State, left, Operation, transitionOf, runOf, BringsWord, BringWords, Sound}
+use Rattle.machine.proofs.Machine.{controller}
 use Rattle.script.specs.declared.records.Record.{Record}
 use Rattle.script.specs.Records.{valueOf, recordOf}
 use Rattle.script.specs.Play.{recordAfterOf, stateOf, operationOf, operationsOf}

@@ -21,7 +21,7 @@ use Rattle.access.specs.Store.{hasFormOf, storeDeclineOf, storeAcceptedOf, stor
 use Rattle.flash.specs.Lengths.{lengthsFitOf}
 use Rattle.flash.specs.Step.{After, stepDeclineOf, stepOf}
 use Rattle.controller.specs.Reset.{resetDeclineOf, resetOf}
-use Rattle.controller.specs.Machine.{State, left}
+use Rattle.machine.specs.Machine.{State, left}
 use Rattle.script.specs.declared.records.Record.{Record}
 use Rattle.script.specs.Records.{recordOf, recordsOf}
 use Rattle.script.specs.Digits.{widthOf}

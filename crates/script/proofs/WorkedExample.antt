@@ -2,8 +2,8 @@
 -- Assumes nothing.
 use mathlib.Core.Path.{refl}
 use Rattle.access.specs.Store.{hasFormOf, storeDeclineOf, launchesOf, conStoreOf, appliedOf, storeAcceptedOf, storeOf}
-use Rattle.device.specs.Fields.{keyNextOf, conTakesOf}
-use Rattle.device.specs.Launch.{launchOf}
+use Rattle.access.specs.Fields.{keyNextOf, conTakesOf}
+use Rattle.access.specs.Launch.{launchOf}
 use Rattle.device.specs.Operation.{unitOf, targetOf, targetBeginsOf, beginsAtOf, lengthOf}
 use Rattle.device.specs.Possible.{implementedOf, runningOf, possibleOf}
 use Rattle.device.specs.Protection.{programProtectedOf}

@@ -12,7 +12,7 @@ use Rattle.access.specs.declared.store.Stored.{Stored}
 use Rattle.access.specs.Store.{storeOf}
 use Rattle.flash.specs.Step.{After, after, stepOf}
 use Rattle.controller.specs.Reset.{resetOf}
-use Rattle.controller.specs.Machine.{State, left, Operation}
+use Rattle.machine.specs.Machine.{State, left, Operation}
 use Rattle.script.specs.declared.records.Record.{Record}
 use Rattle.script.specs.Records.{recordOf, recordsOf, isScriptOf}
 use Rattle.script.specs.Lines.{lineOf, linesLengthOf}

@@ -11,7 +11,7 @@ use Rattle.geometry.specs.Banks.{bankWordsOf}
 use Rattle.geometry.specs.Decline.{numberOf}
 use Rattle.geometry.specs.Sequence.{sequenceIndexOf}
 use Rattle.device.specs.Record.{powerOn}
-use Rattle.controller.specs.Machine.{State, state}
+use Rattle.machine.specs.Machine.{State, state}
 use Rattle.script.specs.Records.{recordsOf, isScriptOf}
 use Rattle.script.specs.Lines.{lineFeed, decimalOf}
 use Rattle.script.specs.Play.{linesOf, putFirst, Playback}

@@ -4,7 +4,7 @@ ghost use Prim.Native.Nat.{_≤_};
 ghost use lib.ListN.{length};
 ghost use lib.Seq.{sets};
 ghost use Rattle.flash.specs.Step.{after};
-ghost use Rattle.controller.specs.Machine.{state};
+ghost use Rattle.machine.specs.Machine.{state};
 ghost use Rattle.script.specs.Records.{recordsOf};
 ghost use Rattle.script.specs.Lines.{linesLengthOf};
 ghost use Rattle.script.specs.Play.{recordAfterOf, stateOf, linesOf, playback, playOf};

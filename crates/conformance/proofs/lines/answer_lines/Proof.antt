@@ -4,7 +4,7 @@ use mathlib.Core.Path.{_≡_}
 use native.Mathlib.Omega.{arith}
 use borrow.Author.Needs.{needs}
 use lib.ListN.{length}
-use Rattle.cases.specs.Output.{Used}
+use Rattle.conformance_cases.specs.Output.{Used}
 use Rattle.conformance.proofs.lines.answer_lines.Statement.{statement}
 use Rattle.conformance.proofs.lines.answer_lines.Tie as tie
 

@@ -2,7 +2,7 @@
 use borrow.Author.Needs.{needs}
 use borrow.Author.Tests.{not-true, not-false, leb-true}
 use mathlib.Core.Path.{_∙_, sym}
-use Rattle.controller.specs.Machine.{state}
+use Rattle.machine.specs.Machine.{state}
 use Rattle.script.proofs.PlayLaws.{play-ends}
 use Rattle.script.specs.Play.{playOf}
 use Rattle.script.proofs.play.play.Statement.{statement}

@@ -5,7 +5,7 @@ use lib.ListN.{length}
 use mathlib.Core.Path.{_≡_, refl}
 use native.Mathlib.Numerals.{add-one}
 use native.Mathlib.Omega.{arith}
-use Rattle.controller.specs.Machine.{state}
+use Rattle.machine.specs.Machine.{state}
 use Rattle.script.proofs.LineLaws.{length-grows}
 use Rattle.script.proofs.PlayLaws.{answer-digit, Playing, playing-bytes, playing-next}
 use Rattle.script.proofs.play.play_records.Statement.{statement}

@@ -1,0 +1,56 @@
+-- "Registers": what a store asks for, and which fields take it. Masks of fields that do not overlap are added.
+-- Assumes nothing.
+use Prim.Native.Nat.{ℕ, _+_, _/_, _%_}
+use mathlib.Core.Bool.{_&&_}
+use lib.Dec.{eqb}
+use lib.Bits.{bitOr, bitXor}
+use Rattle.words.specs.Word.{pick, hasOf, clearOf}
+use Rattle.device.specs.declared.record.Device.{Device}
+use Rattle.device.specs.Record.{isOpen}
+use Rattle.device.specs.Registers.{WREN, PFSWAP, BFSWAP, NVMOP, PWPULOCK, PWP, LBWPULOCK, LBWP, UBWPULOCK, UBWP, NVMERS, NVMWS, NVMLPRD, NVMCRD, NVMVRD, NVMRETRY, SWAPLOCK}
+
+-- "A store has form 0 plain, 1 clear, 2 set or 3 invert"; "The form gives a wanted value"
+abbrev pub wantedOf : ℕ → ℕ → ℕ → ℕ
+wantedOf form old value =
+    pick (eqb form 0) value (pick (eqb form 1) (clearOf old value) (pick (eqb form 2) (bitOr old value) (bitXor old value)))
+
+-- "stores of 0, 0xAA996655, 0x556699AA to NVMKEY raise the key step to 1, 2, 3"; "out of turn sets it to 1 if its value is
+-- 0, else to 0"
+unfoldable pub keyNextOf : ℕ → ℕ → ℕ
+keyNextOf keystep value =
+    pick (eqb value 0) 1
+    (pick (eqb keystep 1 && eqb value 0xAA99_6655) 2
+    (pick (eqb keystep 2 && eqb value 0x5566_99AA) 3 0))
+
+-- "WREN: always. NVMOP: WREN = 0. PFSWAP, BFSWAP: WREN = 0, SWAPLOCK = 0, key open. WRERR and LVDERR: never."
+unfoldable pub conTakesOf : Device → ℕ
+conTakesOf d =
+    WREN
+    + pick (hasOf (d .nvmcon .0) WREN) 0 NVMOP
+    + pick (hasOf (d .nvmcon .0) WREN) 0 (pick (hasOf (d .nvmcon2 .0) SWAPLOCK) 0 (pick (isOpen d) (PFSWAP + BFSWAP) 0))
+
+-- "NVMPWP, NVMBWP: key open; lock bits only fall; the fields under a lock bit need it to be 1." A lock bit takes the
+-- wanted value only where it is 1, so it only falls
+unfoldable pub pwpTakesOf : Device → ℕ
+pwpTakesOf d = pick (isOpen d) (pick (hasOf (d .nvmpwp .0) PWPULOCK) (PWPULOCK + PWP) 0) 0
+
+abbrev pub lowerTakesOf : Device → ℕ
+lowerTakesOf d = pick (hasOf (d .nvmbwp .0) LBWPULOCK) (LBWPULOCK + LBWP) 0
+
+abbrev pub upperTakesOf : Device → ℕ
+upperTakesOf d = pick (hasOf (d .nvmbwp .0) UBWPULOCK) (UBWPULOCK + UBWP) 0
+
+unfoldable pub bwpTakesOf : Device → ℕ
+bwpTakesOf d = pick (isOpen d) (lowerTakesOf d + upperTakesOf d) 0
+
+-- "NVMWS, NVMLPRD, NVMCRD, NVMVRD need the key"
+abbrev pub keyedTakesOf : Device → ℕ
+keyedTakesOf d = pick (isOpen d) (NVMWS + NVMLPRD + NVMCRD + NVMVRD) 0
+
+-- "SWAPLOCK needs SWAPLOCK other than 3": bits 7 to 6
+abbrev pub swaplockTakesOf : Device → ℕ
+swaplockTakesOf d = pick (eqb (d .nvmcon2 .0 / 64 % 4) 3) 0 SWAPLOCK
+
+-- "Fields given no condition always take the wanted value."
+unfoldable pub con2TakesOf : Device → ℕ
+con2TakesOf d = NVMERS + NVMRETRY + keyedTakesOf d + swaplockTakesOf d

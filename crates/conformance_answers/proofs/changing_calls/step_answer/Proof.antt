@@ -1,0 +1,24 @@
+-- A step keeps the lengths of the banks, so the spare buffer has room for each after it too.
+use native.Mathlib.Omega.{arith}
+use borrow.Author.Needs.{needs}
+use Rattle.conformance_answers.proofs.changing_calls.step_answer.Statement.{statement}
+use Rattle.conformance_answers.proofs.changing_calls.step_answer.Tie as tie
+
+with-changes-requires : tie.Need-with-changes-requires
+with-changes-requires c κs = omega (arith, c .before .before .before .before .before .before .before .before .step .kept, c .before .before .before .before .before .before .before .before .before .before .before .before .before .before .before .before .before .before .pre)
+
+pub step-answer-spec : {M : Type 1} → statement M
+step-answer-spec =
+    tie.close
+    (tie.spec
+    (λ c κs. search needs)
+    (λ c κs. search needs)
+    (λ c. search needs)
+    (λ c. search needs)
+    (λ c κs. search needs)
+    (λ c κs. search needs)
+    with-changes-requires
+    (λ c. search needs)
+    (λ c. search needs)
+    (λ c. search needs)
+    (λ c. search needs))

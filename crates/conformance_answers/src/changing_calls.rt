@@ -1,0 +1,75 @@
+// The calls that change lent banks. The SRAM stands in the spare buffer, where the banks as they were come later.
+// What asks for room in the spare buffer is no call of the device: its callers show it.
+ghost use Prim.Native.Nat.{_≤_};
+ghost use Rattle.conformance_cases.specs.Cases.{Lent};
+use crate::records::device_of;
+use crate::records::geometry_of;
+use crate::records::with_device;
+use conformance_cases::answer::Answer;
+use conformance_cases::changes::with_changes;
+use controller::reset::Restarted;
+use controller::reset::reset;
+use flash::step::Stepped;
+use flash::step::step;
+
+// What a step gives but for the changes.
+fn stepped(given: Stepped) -> Answer
+    ensures { λ r. ⌜ r .count ≤ 15 ⌝ }
+{
+    let decline = given.decline;
+    let first = Answer::only(decline.number());
+    if !decline.is_accepted() {
+        return first;
+    }
+    with_device(first, given.device).with_flag(given.event)
+}
+
+// What a reset gives but for the changes.
+fn restarted(given: Restarted) -> Answer
+    ensures { λ r. ⌜ r .count ≤ 15 ⌝ }
+{
+    let decline = given.decline;
+    let first = Answer::only(decline.number());
+    if !decline.is_accepted() {
+        return first;
+    }
+    with_device(first, given.device)
+}
+
+pub fn step_answer(
+    line: &[u8],
+    lists: usize,
+    front: [u32; 20],
+    one: &mut [u32],
+    two: &mut [u32],
+    spare: &mut [u32],
+    sram: usize,
+) -> Answer
+    requires { ⌜ Lent (now one) (now two) (now spare) sram ⌝ }
+    ensures { λ r. ⌜ r .count ≤ 32 ⌝ }
+{
+    let g = geometry_of(front);
+    let d = device_of(front);
+    let given = step(g, d, one, two, &spare[..sram]);
+    with_changes(stepped(given), line, lists, one, two, spare)
+}
+
+pub fn reset_answer(
+    line: &[u8],
+    lists: usize,
+    front: [u32; 20],
+    back: [u32; 20],
+    one: &mut [u32],
+    two: &mut [u32],
+    spare: &mut [u32],
+    sram: usize,
+) -> Answer
+    requires { ⌜ Lent (now one) (now two) (now spare) sram ⌝ }
+    ensures { λ r. ⌜ r .count ≤ 32 ⌝ }
+{
+    let g = geometry_of(front);
+    let d = device_of(front);
+    let mask = [back[1], back[2], back[3], back[4]];
+    let given = reset(g, d, one, two, &spare[..sram], back[0], mask);
+    with_changes(restarted(given), line, lists, one, two, spare)
+}

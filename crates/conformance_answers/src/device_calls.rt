@@ -1,0 +1,108 @@
+// The calls that lend no list: the comparison and the calls on the device alone.
+ghost use Prim.Native.Nat.{_≤_};
+ghost use lib.Dec.{eqb};
+ghost use Rattle.words.specs.Word.{pick};
+use crate::records::device_of;
+use crate::records::geometry_of;
+use crate::records::with_device;
+use access::start_up::start_up;
+use access::store::register_read;
+use access::store::store;
+use conformance_cases::answer::Answer;
+use device::possible::is_possible;
+use device::protection::is_protected;
+use geometry::banks::Geometry;
+use geometry::banks::in_range;
+use geometry::sequence::bfswap;
+
+pub fn compare_answer(words: [u32; 20]) -> Answer
+    ensures { λ r. ⌜ r .count ≤ 20 ⌝ }
+{
+    if bfswap(words[0], words[1]) {
+        return Answer::only(2);
+    }
+    Answer::only(1)
+}
+
+pub fn possible_answer(words: [u32; 20]) -> Answer
+    ensures { λ r. ⌜ r .count ≤ 20 ⌝ }
+{
+    let g = geometry_of(words);
+    if !in_range(g) {
+        return Answer::no_case();
+    }
+    Answer::no_case().with_flag(is_possible(g, device_of(words)))
+}
+
+// The pages of a kind, 0 for boot and 1 for program, and none of any other.
+fn pages_of(g: Geometry, kind: u32) -> u32
+    ensures { λ r. ⌜ r ≤ pick (eqb kind 1) (g .p) (g .b) ⌝ }
+{
+    match kind {
+        0 => g.b,
+        1 => g.p,
+        _ => 0,
+    }
+}
+
+pub fn protected_answer(words: [u32; 20]) -> Answer
+    ensures { λ r. ⌜ r .count ≤ 20 ⌝ }
+{
+    let g = geometry_of(words);
+    let kind = words[16];
+    let side = words[17];
+    let page = words[18];
+    if !in_range(g) {
+        return Answer::no_case();
+    }
+    if 1 < side {
+        return Answer::no_case();
+    }
+    if pages_of(g, kind) <= page {
+        return Answer::no_case();
+    }
+    let d = device_of(words);
+    Answer::no_case().with_flag(is_protected(g, d, kind == 1, side == 1, page))
+}
+
+pub fn store_answer(words: [u32; 20]) -> Answer
+    ensures { λ r. ⌜ r .count ≤ 20 ⌝ }
+{
+    let g = geometry_of(words);
+    let d = device_of(words);
+    let given = store(g, d, words[16], words[17], words[18]);
+    let decline = given.decline;
+    let first = Answer::only(decline.number());
+    if !decline.is_accepted() {
+        return first;
+    }
+    with_device(first, given.device).with_flag(given.event)
+}
+
+pub fn register_read_answer(words: [u32; 20]) -> Answer
+    ensures { λ r. ⌜ r .count ≤ 20 ⌝ }
+{
+    let g = geometry_of(words);
+    let d = device_of(words);
+    let given = register_read(g, d, words[16]);
+    let decline = given.decline;
+    let first = Answer::only(decline.number());
+    if !decline.is_accepted() {
+        return first;
+    }
+    with_device(first.with(given.value), given.device)
+}
+
+pub fn start_up_answer(words: [u32; 20]) -> Answer
+    ensures { λ r. ⌜ r .count ≤ 20 ⌝ }
+{
+    let g = geometry_of(words);
+    let d = device_of(words);
+    let given = start_up(g, d);
+    let decline = given.decline;
+    let first = Answer::only(decline.number());
+    if !decline.is_accepted() {
+        return first;
+    }
+    with_device(first, given.device)
+}

@@ -1,0 +1,113 @@
+-- The controller as one machine: a transition for each operation, of which each call's definition is an instance, and what holds of
+-- every list of operations. Assumes nothing.
+use Prim.Native.Nat.{ℕ, _+_, _*_, _^_, _≤_, _<_}
+use mathlib.Core.Path.{_≡_}
+use mathlib.Core.Bool.{Bool, true, false}
+use mathlib.Core.List.{List, [], _∷_}
+use mathlib.Core.Logic.{_⊎_}
+use lib.ListN.{length}
+use Rattle.words.specs.Quad.{wordAt}
+use Rattle.geometry.specs.declared.banks.Geometry.{Geometry}
+use Rattle.geometry.specs.declared.decline.Decline.{Decline}
+use Rattle.geometry.specs.Banks.{inRangeOf, bankWordsOf}
+use Rattle.geometry.specs.Decline.{acceptedOf}
+use Rattle.geometry.specs.Windows.{pageOf, quadIndexOf}
+use Rattle.device.specs.declared.record.Device.{Device}
+use Rattle.device.specs.Registers.{withinOf}
+use Rattle.device.specs.Record.{registerOf, powerOn, running, bfswap}
+use Rattle.device.specs.Protection.{protectedOf}
+use Rattle.device.specs.Possible.{possibleOf}
+use Rattle.access.specs.Store.{storeOf, registerReadOf}
+use Rattle.flash.specs.Effect.{stepLocationOf, effectOf}
+use Rattle.flash.specs.Step.{After, stepOf}
+use Rattle.controller.specs.Reset.{comparedOf, resetOf}
+use Rattle.controller.specs.Read.{secondAtOf, flashReadOf}
+
+-- a store of a form and a value to a register; a register read; a flash read; a step and a reset with their SRAM, a reset also with its
+-- kind and its mask
+pub data Operation : Type 0 where
+  store : ℕ → ℕ → ℕ → Operation
+  registerRead : ℕ → Operation
+  flashRead : ℕ → Operation
+  step : List ℕ → Operation
+  reset : List ℕ → ℕ → List ℕ → Operation
+
+pub record State : Type 0 where
+  pub device : Device
+  pub one : List ℕ
+  pub two : List ℕ
+
+abbrev pub state : Device → List ℕ → List ℕ → State
+state d one two = record { device = d; one = one; two = two }
+
+abbrev pub left : After → State
+left a = state (a .device) (a .one) (a .two)
+
+-- the answer to an operation
+abbrev pub answerOf : Geometry → State → Operation → Decline
+answerOf g s (store r form value) = storeOf g (s .device) r form value .decline
+answerOf g s (registerRead r) = registerReadOf g (s .device) r .decline
+answerOf g s (flashRead address) = flashReadOf g (s .device) (s .one) (s .two) address .decline
+answerOf g s (step sram) = stepOf g (s .device) (s .one) (s .two) sram .decline
+answerOf g s (reset sram kind mask) = resetOf g (s .device) (s .one) (s .two) sram kind mask .decline
+
+-- the state after it
+abbrev pub transitionOf : Geometry → State → Operation → State
+transitionOf g s (store r form value) = state (storeOf g (s .device) r form value .device) (s .one) (s .two)
+transitionOf g s (registerRead r) = state (registerReadOf g (s .device) r .device) (s .one) (s .two)
+transitionOf g s (flashRead address) = s
+transitionOf g s (step sram) = left (stepOf g (s .device) (s .one) (s .two) sram)
+transitionOf g s (reset sram kind mask) = left (resetOf g (s .device) (s .one) (s .two) sram kind mask)
+
+-- the state after a list of operations
+abbrev pub runOf : Geometry → State → List Operation → State
+runOf g s [] = s
+runOf g s (o ∷ rest) = runOf g (transitionOf g s o) rest
+
+-- a store brings a word of 32 bits, as every caller's does
+abbrev pub BringsWord : Operation → Type 0
+BringsWord (store r form value) = value < 2 ^ 32
+BringsWord (registerRead r) = Unit {0}
+BringsWord (flashRead address) = Unit {0}
+BringsWord (step sram) = Unit {0}
+BringsWord (reset sram kind mask) = Unit {0}
+
+abbrev pub BringWords : List Operation → Type 0
+BringWords [] = Unit {0}
+BringWords (o ∷ rest) = BringsWord o × BringWords rest
+
+-- a possible device over two banks of the geometry's length
+pub record Sound (g : Geometry) (s : State) : Type 0 where
+  pub possible : possibleOf g (s .device) ≡ true
+  pub first : length (s .one) ≡ bankWordsOf g
+  pub other : length (s .two) ≡ bankWordsOf g
+
+-- word v lies outside quad q
+abbrev pub Outside : ℕ → ℕ → Type 0
+Outside q v = (v < 4 * q) ⊎ (4 * q + 4 ≤ v)
+
+-- an operation changes no word of either bank but those of the quad of the next step
+pub record OneQuad (g : Geometry) (s t : State) : Type 0 where
+  pub one-word : (v : ℕ) → Outside (quadIndexOf g (stepLocationOf g (s .device))) v → wordAt (t .one) v ≡ wordAt (s .one) v
+  pub two-word : (v : ℕ) → Outside (quadIndexOf g (stepLocationOf g (s .device))) v → wordAt (t .two) v ≡ wordAt (s .two) v
+
+-- what holds of the controller
+pub record Controller : Type 1 where
+  -- every list of operations, declined ones too, from a possible device leaves one, and banks of unchanged length
+  pub stays-sound : (g : Geometry) (s : State) → Sound g s → (l : List Operation) → BringWords l → Sound g (runOf g s l)
+  -- so from power-on
+  pub power-on : (g : Geometry) (one two : List ℕ) → length one ≡ bankWordsOf g → length two ≡ bankWordsOf g → Sound g (state powerOn one two)
+  -- a declined operation changes nothing
+  pub declined-same : (g : Geometry) (s : State) (o : Operation) → acceptedOf (answerOf g s o) ≡ false → transitionOf g s o ≡ s
+  -- after a reset BFSWAP is the comparison of what the banks then hold
+  pub compared : (g : Geometry) (s : State) (sram : List ℕ) (kind : ℕ) (mask : List ℕ) → acceptedOf (answerOf g s (reset sram kind mask)) ≡ true
+      → let t = transitionOf g s (reset sram kind mask) in bfswap (t .device) ≡ comparedOf g (t .one) (t .two)
+  -- registers always read within their masks
+  pub masked : (g : Geometry) (s : State) → Sound g s → (r : ℕ) → r < 11 → withinOf r (registerOf (s .device) r) ≡ true
+  -- a step and a tear change at most the one quad of the step
+  pub one-quad : (g : Geometry) (s : State) (sram : List ℕ) → OneQuad g s (transitionOf g s (step sram))
+  pub one-quad-torn : (g : Geometry) (s : State) (sram : List ℕ) (kind : ℕ) (mask : List ℕ) → OneQuad g s (transitionOf g s (reset sram kind mask))
+  -- and write it only where its page is not protected then
+  pub unprotected : (g : Geometry) → inRangeOf g ≡ true → (s : State) → Sound g s → running (s .device) ≡ true → (sram : List ℕ)
+      → effectOf g (s .device) (s .one) (s .two) sram .writes ≡ true
+      → let l = stepLocationOf g (s .device) in protectedOf g (s .device) (l .program) (l .upper) (pageOf g l) ≡ false
