@@ -2,16 +2,18 @@
 -- Assumes nothing.
 use mathlib.Core.Path.{_≡_, refl}
 use mathlib.Core.Bool.{true, false}
+use mathlib.Core.List.{[]}
 use Prim.Native.Nat.{ℕ}
 use Rattle.geometry.specs.declared.banks.Geometry.{Geometry}
 use Rattle.geometry.specs.declared.decline.Decline.{Decline}
 use Rattle.geometry.specs.Banks.{inRangeOf, InRange}
 use Rattle.geometry.specs.Decline.{acceptedOf}
-use Rattle.geometry.proofs.DeclineLaws.{held, passed}
-use Rattle.geometry.proofs.SizeLaws.{in-range}
+use Rattle.geometry.proofs.DeclineLaws.{held, passed, neither}
 use Rattle.device.specs.declared.record.Device.{Device}
 use Rattle.device.specs.Record.{running}
 use Rattle.device.specs.Possible.{possibleOf}
+use Rattle.device.specs.Opening.{openingOf}
+use Rattle.device.proofs.OpeningLaws.{ready}
 use Rattle.access.specs.Store.{hasFormOf, storeDeclineOf, readDeclineOf}
 use Rattle.access.specs.StartUp.{startUpDeclineOf}
 
@@ -22,28 +24,29 @@ pub record AtRest (g : Geometry) (d : Device) : Type 0 where
   pub possible : possibleOf g d ≡ true
   pub idle : running d ≡ false
 
+at-rest : (g : Geometry) (d : Device) → acceptedOf (openingOf g d [] 0) ≡ true → running d ≡ false → AtRest g d
+at-rest g d h idle =
+    let r = ready g d [] 0 h in
+    record { listed = r .lent .listed; range = r .lent .range; possible = r .possible; idle = idle }
+
 pub store-at-rest : (g : Geometry) (d : Device) (r form : ℕ) → acceptedOf (storeDeclineOf g d r form) ≡ true
     → AtRest g d × (hasFormOf r form ≡ true)
 unfolding storeDeclineOf
 store-at-rest g d r form h =
-    let s0 = held (inRangeOf g) _ Decline.Geometry refl h in
-    let s1 = held (possibleOf g d) _ Decline.Device refl (s0 .1) in
-    let s2 = held (hasFormOf r form) _ Decline.Register refl (s1 .1) in
-    let s3 = passed (running d) Decline.Running Decline.Accepted refl (s2 .1) in
-    (record { listed = s0 .0; range = in-range g (s0 .0); possible = s1 .0; idle = s3 .0 }, s2 .0)
+    let s0 = neither (openingOf g d [] 0) _ h in
+    let s1 = held (hasFormOf r form) _ Decline.Register refl (s0 .1) in
+    let s2 = passed (running d) Decline.Running Decline.Accepted refl (s1 .1) in
+    (at-rest g d (s0 .0) (s2 .0), s1 .0)
 
 pub start-up-at-rest : (g : Geometry) (d : Device) → acceptedOf (startUpDeclineOf g d) ≡ true → AtRest g d
 unfolding startUpDeclineOf
 start-up-at-rest g d h =
-    let s0 = held (inRangeOf g) _ Decline.Geometry refl h in
-    let s1 = held (possibleOf g d) _ Decline.Device refl (s0 .1) in
-    let s2 = passed (running d) Decline.Running Decline.Accepted refl (s1 .1) in
-    record { listed = s0 .0; range = in-range g (s0 .0); possible = s1 .0; idle = s2 .0 }
+    let s0 = neither (openingOf g d [] 0) _ h in
+    at-rest g d (s0 .0) (passed (running d) Decline.Running Decline.Accepted refl (s0 .1) .0)
 
 pub read-possible : (g : Geometry) (d : Device) (r : ℕ) → acceptedOf (readDeclineOf g d r) ≡ true
     → InRange g × (possibleOf g d ≡ true)
 unfolding readDeclineOf
 read-possible g d r h =
-    let s0 = held (inRangeOf g) _ Decline.Geometry refl h in
-    let s1 = held (possibleOf g d) _ Decline.Device refl (s0 .1) in
-    (in-range g (s0 .0), s1 .0)
+    let r = ready g d [] 0 (neither (openingOf g d [] 0) _ h .0) in
+    (r .lent .range, r .possible)

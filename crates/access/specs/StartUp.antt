@@ -4,12 +4,11 @@ use mathlib.Core.List.{List, [], _∷_, _++_}
 use Rattle.words.specs.Word.{pick}
 use Rattle.geometry.specs.declared.banks.Geometry.{Geometry}
 use Rattle.geometry.specs.declared.decline.Decline.{Decline}
-use Rattle.geometry.specs.Banks.{inRangeOf}
-use Rattle.geometry.specs.Decline.{acceptedOf}
+use Rattle.geometry.specs.Decline.{acceptedOf, firstOf}
 use Rattle.device.specs.declared.record.Device.{Device}
 use Rattle.access.specs.declared.start_up.StartedUp.{StartedUp}
 use Rattle.device.specs.Record.{running, bfswap}
-use Rattle.device.specs.Possible.{possibleOf}
+use Rattle.device.specs.Opening.{openingOf}
 use Rattle.access.specs.Store.{storeOf}
 
 -- a store by its register, form and value
@@ -46,12 +45,7 @@ startUpStores d = swapStores d ++ access 10 2 0xC0 ∷ []
 
 -- declines 1, 3 and 5
 unfoldable pub startUpDeclineOf : Geometry → Device → Decline
-startUpDeclineOf g d =
-    pick (inRangeOf g)
-    (pick (possibleOf g d)
-    (pick (running d) Decline.Running Decline.Accepted)
-    Decline.Device)
-    Decline.Geometry
+startUpDeclineOf g d = firstOf (openingOf g d [] 0) (pick (running d) Decline.Running Decline.Accepted)
 
 unfoldable pub startUpOf : Geometry → Device → StartedUp
 startUpOf g d =

@@ -1,21 +1,20 @@
 -- Stores and register reads: why they are declined, and what they do. Assumes nothing.
 use Prim.Native.Nat.{ℕ}
 use mathlib.Core.Bool.{Bool, true, false, _&&_}
-use mathlib.Core.List.{List}
+use mathlib.Core.List.{List, []}
 use lib.Dec.{eqb, ltb}
 use lib.ListN.{set}
 use Rattle.words.specs.Word.{pick, hasOf, mergeOf}
 use Rattle.geometry.specs.declared.banks.Geometry.{Geometry}
 use Rattle.geometry.specs.declared.decline.Decline.{Decline}
-use Rattle.geometry.specs.Banks.{inRangeOf}
-use Rattle.geometry.specs.Decline.{acceptedOf}
+use Rattle.geometry.specs.Decline.{acceptedOf, firstOf}
 use Rattle.device.specs.declared.record.Device.{Device}
 use Rattle.access.specs.declared.launch.Launched.{Launched}
 use Rattle.access.specs.declared.store.Stored.{Stored}
 use Rattle.access.specs.declared.store.RegisterRead.{RegisterRead}
 use Rattle.device.specs.Registers.{WR, WREN}
 use Rattle.device.specs.Record.{registerOf, withCon, running, isOpen}
-use Rattle.device.specs.Possible.{possibleOf}
+use Rattle.device.specs.Opening.{openingOf}
 use Rattle.access.specs.Fields.{wantedOf, keyNextOf, conTakesOf, pwpTakesOf, bwpTakesOf, con2TakesOf}
 use Rattle.access.specs.Launch.{launched, launchOf}
 
@@ -26,13 +25,10 @@ hasFormOf r form = pick (ltb 10 r) false (pick (ltb 3 form) false (pick (eqb r 1
 -- declines 1, 3, 4 and 5
 unfoldable pub storeDeclineOf : Geometry → Device → ℕ → ℕ → Decline
 storeDeclineOf g d r form =
-    pick (inRangeOf g)
-    (pick (possibleOf g d)
+    firstOf (openingOf g d [] 0)
     (pick (hasFormOf r form)
     (pick (running d) Decline.Running Decline.Accepted)
     Decline.Register)
-    Decline.Device)
-    Decline.Geometry
 
 -- "wanted 1 with WREN = 1 and key open launches"
 unfoldable pub launchesOf : Device → ℕ → Bool
@@ -87,12 +83,7 @@ storeOf g d r form value =
 
 -- declines 1, 3 and 4
 unfoldable pub readDeclineOf : Geometry → Device → ℕ → Decline
-readDeclineOf g d r =
-    pick (inRangeOf g)
-    (pick (possibleOf g d)
-    (pick (ltb 10 r) Decline.Register Decline.Accepted)
-    Decline.Device)
-    Decline.Geometry
+readDeclineOf g d r = firstOf (openingOf g d [] 0) (pick (ltb 10 r) Decline.Register Decline.Accepted)
 
 -- "any register read, sets it to 0 afterwards"
 unfoldable pub registerReadOf : Geometry → Device → ℕ → RegisterRead

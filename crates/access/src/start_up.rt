@@ -2,14 +2,14 @@
 ghost use mathlib.Core.Path.{_≡_};
 ghost use Rattle.access.specs.StartUp.{startUpDeclineOf, unlockedOf, swappedOf, startUpOf};
 use crate::store::store;
-use device::possible::is_possible;
+use device::opening::opening;
 use device::record::Device;
 use device::registers::NVMKEY;
 use device::registers::Nvmcon;
 use device::registers::Nvmcon2;
 use geometry::banks::Geometry;
-use geometry::banks::in_range;
 use geometry::decline::Decline;
+use geometry::lent::Lent;
 use words::word::has;
 
 // The answer to a start-up. Where it is declined the device is as before.
@@ -21,11 +21,9 @@ pub struct StartedUp {
 fn start_up_decline(g: Geometry, d: Device) -> Decline
     ensures { λ r. ⌜ r ≡ startUpDeclineOf g d ⌝ }
 {
-    if !in_range(g) {
-        return Decline::Geometry;
-    }
-    if !is_possible(g, d) {
-        return Decline::Device;
+    let decline = opening(g, d, Lent::Nothing, 0);
+    if !decline.is_accepted() {
+        return decline;
     }
     if has(d.nvmcon.0, Nvmcon::WR) {
         return Decline::Running;

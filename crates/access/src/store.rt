@@ -10,13 +10,16 @@ use crate::fields::pwp_takes;
 use crate::fields::wanted;
 use crate::launch::Launched;
 use crate::launch::launch;
-use device::possible::is_possible;
+use device::opening::opening;
 use device::record::Device;
 use device::record::register;
+use device::registers::Nvmbwp;
 use device::registers::Nvmcon;
+use device::registers::Nvmcon2;
+use device::registers::Nvmpwp;
 use geometry::banks::Geometry;
-use geometry::banks::in_range;
 use geometry::decline::Decline;
+use geometry::lent::Lent;
 use words::word::has;
 use words::word::merge;
 
@@ -53,11 +56,9 @@ fn has_form(number: u32, form: u32) -> bool
 fn store_decline(g: Geometry, d: Device, number: u32, form: u32) -> Decline
     ensures { λ r. ⌜ r ≡ storeDeclineOf g d number form ⌝ }
 {
-    if !in_range(g) {
-        return Decline::Geometry;
-    }
-    if !is_possible(g, d) {
-        return Decline::Device;
+    let decline = opening(g, d, Lent::Nothing, 0);
+    if !decline.is_accepted() {
+        return decline;
     }
     if !has_form(number, form) {
         return Decline::Register;
@@ -87,8 +88,8 @@ fn con_store(g: Geometry, d: Device, w: u32) -> Launched
     ensures { λ r. ⌜ r ≡ conStoreOf g d w ⌝ }
 {
     let mut taken = d;
-    let con = merge(con_takes(d), w, d.nvmcon.0);
-    taken.nvmcon.0 = con;
+    let nvmcon = Nvmcon::new(merge(con_takes(d), w, d.nvmcon.0));
+    taken.nvmcon = nvmcon;
     if launches(d, w) {
         return launch(g, taken);
     }
@@ -112,9 +113,18 @@ fn applied(d: Device, number: u32, w: u32) -> Device
         5 => e.nvmdata[2] = w,
         6 => e.nvmdata[3] = w,
         7 => e.nvmsrcaddr = w,
-        8 => e.nvmpwp.0 = merge(pwp_takes(d), w, d.nvmpwp.0),
-        9 => e.nvmbwp.0 = merge(bwp_takes(d), w, d.nvmbwp.0),
-        10 => e.nvmcon2.0 = merge(con2_takes(d), w, d.nvmcon2.0),
+        8 => {
+            let nvmpwp = Nvmpwp::new(merge(pwp_takes(d), w, d.nvmpwp.0));
+            e.nvmpwp = nvmpwp;
+        }
+        9 => {
+            let nvmbwp = Nvmbwp::new(merge(bwp_takes(d), w, d.nvmbwp.0));
+            e.nvmbwp = nvmbwp;
+        }
+        10 => {
+            let nvmcon2 = Nvmcon2::new(merge(con2_takes(d), w, d.nvmcon2.0));
+            e.nvmcon2 = nvmcon2;
+        }
         _ => {}
     }
     e
@@ -129,8 +139,9 @@ fn store_accepted(g: Geometry, d: Device, number: u32, form: u32, value: u32) ->
     if number == 0 {
         let l = con_store(g, d, w);
         let mut after = d;
+        let nvmcon = Nvmcon::new(l.nvmcon);
         after.keystep = 0;
-        after.nvmcon.0 = l.nvmcon;
+        after.nvmcon = nvmcon;
         return Stored {
             decline: Decline::Accepted,
             device: after,
@@ -162,11 +173,9 @@ pub fn store(g: Geometry, d: Device, number: u32, form: u32, value: u32) -> Stor
 fn read_decline(g: Geometry, d: Device, number: u32) -> Decline
     ensures { λ r. ⌜ r ≡ readDeclineOf g d number ⌝ }
 {
-    if !in_range(g) {
-        return Decline::Geometry;
-    }
-    if !is_possible(g, d) {
-        return Decline::Device;
+    let decline = opening(g, d, Lent::Nothing, 0);
+    if !decline.is_accepted() {
+        return decline;
     }
     if 10 < number {
         return Decline::Register;

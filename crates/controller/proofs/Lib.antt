@@ -1,2 +1,1 @@
 pub mod AcceptedLaws
-pub mod PartsLaws

@@ -1,32 +1,24 @@
 -- What is handed back of the lent banks: the bank on the lower alias, and a page. Assumes nothing.
 use Prim.Native.Nat.{ℕ, _+_, _*_}
 use mathlib.Core.Path.{_≡_}
-use mathlib.Core.Bool.{Bool, true, _&&_}
-use mathlib.Core.List.{List, []}
+use mathlib.Core.Bool.{true}
+use mathlib.Core.List.{List, [], _∷_}
 use denote.Ref.{RefT}
-use lib.Dec.{eqb, ltb}
+use lib.Dec.{ltb}
 use lib.ListN.{length, take, drop}
 use Rattle.words.specs.Word.{pick}
 use Rattle.geometry.specs.declared.banks.Geometry.{Geometry}
 use Rattle.geometry.specs.declared.decline.Decline.{Decline}
-use Rattle.geometry.specs.Banks.{inRangeOf, pagesOf, pageWordsOf, bankWordsOf}
-use Rattle.geometry.specs.Decline.{acceptedOf}
+use Rattle.geometry.specs.Banks.{pagesOf, pageWordsOf}
+use Rattle.geometry.specs.Decline.{acceptedOf, firstOf}
+use Rattle.geometry.specs.Lent.{lentDeclineOf}
 use Rattle.device.specs.declared.record.Device.{Device}
 use Rattle.device.specs.Record.{bfswap}
-use Rattle.device.specs.Possible.{possibleOf}
-
--- 2 does not apply to a bank of so many words: "A bank is lent as N×32×Q words."
-abbrev pub bankLengthOf : Geometry → ℕ → Bool
-bankLengthOf g words = eqb words (bankWordsOf g)
+use Rattle.device.specs.Opening.{openingOf}
 
 -- declines 1, 2 and 3, by the lengths of bank 1 and bank 2
 unfoldable pub lowerBankDeclineOf : Geometry → Device → ℕ → ℕ → Decline
-lowerBankDeclineOf g d one two =
-    pick (inRangeOf g)
-    (pick (bankLengthOf g one && bankLengthOf g two)
-    (pick (possibleOf g d) Decline.Accepted Decline.Device)
-    Decline.Length)
-    Decline.Geometry
+lowerBankDeclineOf g d one two = openingOf g d (one ∷ two ∷ []) 0
 
 -- "the bank on the lower alias": "BFSWAP = 0 puts bank 1's boot pages on the lower alias, 1 bank 2's."
 abbrev pub lowerOf : {A : Type 0} → Device → A → A → A
@@ -44,12 +36,7 @@ lowerBankOf g d one two = pick (acceptedOf (lowerBankDeclineOf g d (length one) 
 
 -- declines 1, 2 and 8, by the length of the bank: "its page number, 0 to N-1"
 unfoldable pub pageDeclineOf : Geometry → ℕ → ℕ → Decline
-pageDeclineOf g words page =
-    pick (inRangeOf g)
-    (pick (bankLengthOf g words)
-    (pick (ltb page (pagesOf g)) Decline.Accepted Decline.Address)
-    Decline.Length)
-    Decline.Geometry
+pageDeclineOf g words page = firstOf (lentDeclineOf g (words ∷ []) 0) (pick (ltb page (pagesOf g)) Decline.Accepted Decline.Address)
 
 -- "A page is handed back as that part of the bank.": 32×Q words from word page×32×Q on; "A declined request hands back an
 -- empty part"

@@ -1,7 +1,7 @@
 -- "A flash read gives the word at its address there and changes nothing." Assumes nothing.
 use Prim.Native.Nat.{ℕ, _%_}
 use mathlib.Core.Bool.{Bool, true, false, not, _&&_, _||_}
-use mathlib.Core.List.{List}
+use mathlib.Core.List.{List, [], _∷_}
 use lib.Dec.{eqb}
 use lib.ListN.{length}
 use Rattle.words.specs.Word.{pick}
@@ -9,14 +9,12 @@ use Rattle.words.specs.Quad.{wordAt}
 use Rattle.geometry.specs.declared.banks.Geometry.{Geometry}
 use Rattle.geometry.specs.declared.windows.Location.{Location}
 use Rattle.geometry.specs.declared.decline.Decline.{Decline}
-use Rattle.geometry.specs.Banks.{inRangeOf}
-use Rattle.geometry.specs.Decline.{acceptedOf}
+use Rattle.geometry.specs.Decline.{acceptedOf, firstOf}
 use Rattle.geometry.specs.Windows.{locateOf, wordIndexOf, inSecondOf}
 use Rattle.device.specs.declared.record.Device.{Device}
 use Rattle.device.specs.Record.{running, bfswap, pfswap, opOf}
-use Rattle.device.specs.Possible.{possibleOf}
+use Rattle.device.specs.Opening.{openingOf}
 use Rattle.controller.specs.declared.read.FlashRead.{FlashRead}
-use Rattle.flash.specs.Lengths.{lengthsFitOf}
 use Rattle.flash.specs.Effect.{stepLocationOf}
 
 -- the bank that stands at a place, by the device's swap bits: whether it is bank 2
@@ -38,15 +36,10 @@ readableOf g address = pick (locateOf g address .inside) (eqb (address % 4) 0) f
 -- declines 1, 2, 3, 8 and 9
 unfoldable pub flashReadDeclineOf : Geometry → Device → ℕ → ℕ → ℕ → Decline
 flashReadDeclineOf g d one two address =
-    pick (inRangeOf g)
-    (pick (lengthsFitOf g one two 0)
-    (pick (possibleOf g d)
+    firstOf (openingOf g d (one ∷ two ∷ []) 0)
     (pick (readableOf g address)
     (pick (freeOf g d (secondAtOf d (locateOf g address))) Decline.Accepted Decline.Busy)
     Decline.Address)
-    Decline.Device)
-    Decline.Length)
-    Decline.Geometry
 
 -- the word at an address of the four windows
 abbrev pub wordReadOf : Geometry → Device → List ℕ → List ℕ → ℕ → ℕ

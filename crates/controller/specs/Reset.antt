@@ -1,7 +1,7 @@
 -- "Resets and start-up": the tear, and the device after a reset. Assumes nothing.
 use Prim.Native.Nat.{ℕ, _+_}
 use mathlib.Core.Bool.{Bool, false, _&&_}
-use mathlib.Core.List.{List}
+use mathlib.Core.List.{List, [], _∷_}
 use lib.Dec.{eqb, ltb}
 use lib.ListN.{length, getD}
 use lib.Bits.{bitOr}
@@ -9,28 +9,19 @@ use Rattle.words.specs.Word.{pick, mergeOf, clearOf}
 use Rattle.words.specs.Quad.{wordAt, mergeQuadOf}
 use Rattle.geometry.specs.declared.banks.Geometry.{Geometry}
 use Rattle.geometry.specs.declared.decline.Decline.{Decline}
-use Rattle.geometry.specs.Banks.{inRangeOf}
-use Rattle.geometry.specs.Decline.{acceptedOf}
+use Rattle.geometry.specs.Decline.{acceptedOf, firstOf}
 use Rattle.geometry.specs.Sequence.{sequenceIndexOf, bfswapOf}
 use Rattle.device.specs.declared.record.Device.{Device}
 use Rattle.device.specs.Registers.{WR, WREN, LVDERR, PFSWAP, BFSWAP, NVMERS, resets}
 use Rattle.device.specs.Record.{powerOn, withCon, running}
-use Rattle.device.specs.Possible.{possibleOf}
+use Rattle.device.specs.Opening.{openingOf}
 use Rattle.flash.specs.declared.effect.Effect.{Effect}
-use Rattle.flash.specs.Lengths.{lengthsFitOf}
 use Rattle.flash.specs.Effect.{oldQuadOf, effect, effectOf}
 use Rattle.flash.specs.Step.{After, after, oneAfter, twoAfter}
 
 -- declines 1, 2, 3 and 7
 unfoldable pub resetDeclineOf : Geometry → Device → ℕ → ℕ → ℕ → ℕ → Decline
-resetDeclineOf g d one two sram kind =
-    pick (inRangeOf g)
-    (pick (lengthsFitOf g one two sram)
-    (pick (possibleOf g d)
-    (pick (ltb 2 kind) Decline.ResetKind Decline.Accepted)
-    Decline.Device)
-    Decline.Length)
-    Decline.Geometry
+resetDeclineOf g d one two sram kind = firstOf (openingOf g d (one ∷ two ∷ []) sram) (pick (ltb 2 kind) Decline.ResetKind Decline.Accepted)
 
 -- "the four words of the torn mask choose, bit by bit, intended (1) or old (0)"
 abbrev pub tornQuadOf : Effect → List ℕ → List ℕ → List ℕ → List ℕ

@@ -2,35 +2,22 @@
 ghost use mathlib.Core.Path.{_≡_};
 ghost use lib.ListN.{length};
 ghost use Rattle.controller.specs.Parts.{lowerBankDeclineOf, LentItself, lowerBankOf, pageDeclineOf, pagePartOf, PartItself};
-use device::possible::is_possible;
+use device::opening::opening;
 use device::record::Device;
 use device::registers::Nvmcon;
 use geometry::banks::Geometry;
-use geometry::banks::bank_words;
-use geometry::banks::in_range;
 use geometry::banks::page_words;
 use geometry::banks::pages;
 use geometry::decline::Decline;
+use geometry::lent::Lent;
+use geometry::lent::lent_decline;
 use words::word::has;
 
 // Why the request for the bank on the lower alias is declined.
 pub fn lower_bank_decline(g: Geometry, d: Device, one: &[u32], two: &[u32]) -> Decline
     ensures { λ r. ⌜ r ≡ lowerBankDeclineOf g d (length (now (one .entry))) (length (now (two .entry))) ⌝ }
 {
-    if !in_range(g) {
-        return Decline::Geometry;
-    }
-    let words = bank_words(g) as usize;
-    if one.len() != words {
-        return Decline::Length;
-    }
-    if two.len() != words {
-        return Decline::Length;
-    }
-    if !is_possible(g, d) {
-        return Decline::Device;
-    }
-    Decline::Accepted
+    opening(g, d, Lent::Banks(one.len(), two.len()), 0)
 }
 
 // The bank on the lower alias: the lent bank itself, or an empty part where the request is declined.
@@ -52,12 +39,9 @@ pub fn lower_bank<'a>(g: Geometry, d: Device, one: &'a [u32], two: &'a [u32]) ->
 pub fn page_decline(g: Geometry, bank: &[u32], page: u32) -> Decline
     ensures { λ r. ⌜ r ≡ pageDeclineOf g (length (now (bank .entry))) page ⌝ }
 {
-    if !in_range(g) {
-        return Decline::Geometry;
-    }
-    let words = bank_words(g) as usize;
-    if bank.len() != words {
-        return Decline::Length;
+    let decline = lent_decline(g, Lent::Bank(bank.len()), 0);
+    if !decline.is_accepted() {
+        return decline;
     }
     if pages(g) <= page {
         return Decline::Address;

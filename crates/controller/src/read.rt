@@ -6,15 +6,14 @@ ghost use Rattle.geometry.specs.Banks.{InRange, bankWordsOf};
 ghost use Rattle.geometry.specs.Windows.{locateOf, windowBytesOf};
 ghost use Rattle.device.specs.Possible.{possibleOf};
 ghost use Rattle.controller.specs.Read.{secondAtOf, freeOf, readableOf, flashReadDeclineOf, wordReadOf, flashReadOf};
+use device::opening::opening;
 use device::operation::op;
-use device::possible::is_possible;
 use device::record::Device;
 use device::registers::Nvmcon;
 use flash::effect::step_location;
-use flash::lengths::lengths_fit;
 use geometry::banks::Geometry;
-use geometry::banks::in_range;
 use geometry::decline::Decline;
+use geometry::lent::Lent;
 use geometry::windows::Location;
 use geometry::windows::in_second;
 use geometry::windows::locate;
@@ -65,14 +64,9 @@ fn is_readable(g: Geometry, address: u32) -> bool
 fn flash_read_decline(g: Geometry, d: Device, one: usize, two: usize, address: u32) -> Decline
     ensures { λ r. ⌜ r ≡ flashReadDeclineOf g d one two address ⌝ }
 {
-    if !in_range(g) {
-        return Decline::Geometry;
-    }
-    if !lengths_fit(g, one, two, 0) {
-        return Decline::Length;
-    }
-    if !is_possible(g, d) {
-        return Decline::Device;
+    let decline = opening(g, d, Lent::Banks(one, two), 0);
+    if !decline.is_accepted() {
+        return decline;
     }
     if !is_readable(g, address) {
         return Decline::Address;

@@ -10,20 +10,21 @@ ghost use Rattle.device.specs.Possible.{possibleOf};
 ghost use Rattle.flash.specs.Effect.{Runs, effectOf};
 ghost use Rattle.flash.specs.Step.{after};
 ghost use Rattle.controller.specs.Reset.{resetDeclineOf, tornEffectOf, oneTornOf, twoTornOf, comparedOf, resetConOf, resetDeviceOf, resetOf};
-use device::possible::is_possible;
+use device::opening::opening;
 use device::record::Device;
 use device::record::power_on;
+use device::registers::Nvmbwp;
 use device::registers::Nvmcon;
 use device::registers::Nvmcon2;
+use device::registers::Nvmpwp;
 use device::registers::reset_value;
 use flash::effect::Effect;
 use flash::effect::next_effect;
 use flash::effect::old_quad;
-use flash::lengths::lengths_fit;
 use flash::step::apply;
 use geometry::banks::Geometry;
-use geometry::banks::in_range;
 use geometry::decline::Decline;
+use geometry::lent::Lent;
 use geometry::sequence::bfswap;
 use geometry::sequence::sequence_index;
 use words::quad::merge_quad;
@@ -40,14 +41,9 @@ pub struct Restarted {
 fn reset_decline(g: Geometry, d: Device, one: usize, two: usize, sram: usize, kind: u32) -> Decline
     ensures { λ r. ⌜ r ≡ resetDeclineOf g d one two sram kind ⌝ }
 {
-    if !in_range(g) {
-        return Decline::Geometry;
-    }
-    if !lengths_fit(g, one, two, sram) {
-        return Decline::Length;
-    }
-    if !is_possible(g, d) {
-        return Decline::Device;
+    let decline = opening(g, d, Lent::Banks(one, two), sram);
+    if !decline.is_accepted() {
+        return decline;
     }
     if 2 < kind {
         return Decline::ResetKind;
@@ -137,17 +133,19 @@ fn reset_device(d: Device, kind: u32, swap: bool) -> Device
     let con = swapped(reset_con(d, kind), swap);
     if kind == 0 {
         let mut fresh = power_on();
-        fresh.nvmcon.0 = con;
+        let nvmcon = Nvmcon::new(con);
+        fresh.nvmcon = nvmcon;
         return fresh;
     }
     let mut e = d;
-    let con2 = merge(Nvmcon2::NVMERS, d.nvmcon2.0, reset_value(10));
-    let pwp = reset_value(8);
-    let bwp = reset_value(9);
-    e.nvmcon.0 = con;
-    e.nvmpwp.0 = pwp;
-    e.nvmbwp.0 = bwp;
-    e.nvmcon2.0 = con2;
+    let nvmcon = Nvmcon::new(con);
+    let nvmpwp = Nvmpwp::new(reset_value(8));
+    let nvmbwp = Nvmbwp::new(reset_value(9));
+    let nvmcon2 = Nvmcon2::new(merge(Nvmcon2::NVMERS, d.nvmcon2.0, reset_value(10)));
+    e.nvmcon = nvmcon;
+    e.nvmpwp = nvmpwp;
+    e.nvmbwp = nvmbwp;
+    e.nvmcon2 = nvmcon2;
     e.keystep = 0;
     e.step = 0;
     e

@@ -3,4 +3,5 @@ pub mod Record
 pub mod Protection
 pub mod Operation
 pub mod Possible
+pub mod Opening
 pub mod Bench

@@ -45,10 +45,10 @@ pub fn register(d: Device, number: u32) -> u32
 pub fn power_on() -> Device
     ensures { λ r. ⌜ r ≡ powerOn ⌝ }
 {
-    let nvmcon = Nvmcon(reset_value(0));
-    let nvmpwp = Nvmpwp(reset_value(8));
-    let nvmbwp = Nvmbwp(reset_value(9));
-    let nvmcon2 = Nvmcon2(reset_value(10));
+    let nvmcon = Nvmcon::new(reset_value(0));
+    let nvmpwp = Nvmpwp::new(reset_value(8));
+    let nvmbwp = Nvmbwp::new(reset_value(9));
+    let nvmcon2 = Nvmcon2::new(reset_value(10));
     Device {
         nvmcon,
         nvmkey: reset_value(1),

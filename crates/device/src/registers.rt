@@ -24,7 +24,7 @@ impl Nvmcon {
     pub const NVMOP: u32 = 0xF;
 
     pub fn new(value: u32) -> Self
-        ensures { λ r. ⌜ r .0 ≡ value ⌝ }
+        ensures { λ r. ⌜ r ≡ record { 0 = value } ⌝ }
     {
         Self(value)
     }
@@ -40,7 +40,7 @@ impl Nvmpwp {
     pub const PWP: u32 = 0xFF_FFFF;
 
     pub fn new(value: u32) -> Self
-        ensures { λ r. ⌜ r .0 ≡ value ⌝ }
+        ensures { λ r. ⌜ r ≡ record { 0 = value } ⌝ }
     {
         Self(value)
     }
@@ -63,7 +63,7 @@ impl Nvmbwp {
     pub const UBWP: u32 = 0x1F;
 
     pub fn new(value: u32) -> Self
-        ensures { λ r. ⌜ r .0 ≡ value ⌝ }
+        ensures { λ r. ⌜ r ≡ record { 0 = value } ⌝ }
     {
         Self(value)
     }
@@ -89,7 +89,7 @@ impl Nvmcon2 {
     pub const SWAPLOCK: u32 = 0xC0;
 
     pub fn new(value: u32) -> Self
-        ensures { λ r. ⌜ r .0 ≡ value ⌝ }
+        ensures { λ r. ⌜ r ≡ record { 0 = value } ⌝ }
     {
         Self(value)
     }

@@ -1,35 +1,26 @@
 -- "Launch and flash steps": one step. Assumes nothing.
 use Prim.Native.Nat.{ℕ, _+_}
 use mathlib.Core.Bool.{Bool, true, false}
-use mathlib.Core.List.{List}
+use mathlib.Core.List.{List, [], _∷_}
 use lib.Dec.{eqb}
 use lib.ListN.{length}
 use Rattle.words.specs.Word.{pick, clearOf}
 use Rattle.words.specs.Quad.{putQuad}
 use Rattle.geometry.specs.declared.banks.Geometry.{Geometry}
 use Rattle.geometry.specs.declared.decline.Decline.{Decline}
-use Rattle.geometry.specs.Banks.{inRangeOf}
-use Rattle.geometry.specs.Decline.{acceptedOf}
+use Rattle.geometry.specs.Decline.{acceptedOf, firstOf}
 use Rattle.device.specs.declared.record.Device.{Device}
 use Rattle.device.specs.Registers.{WR, WRERR}
 use Rattle.device.specs.Record.{withCon, running, opOf}
 use Rattle.device.specs.Operation.{lengthOf}
-use Rattle.device.specs.Possible.{possibleOf}
+use Rattle.device.specs.Opening.{openingOf}
 use Rattle.flash.specs.declared.effect.Effect.{Effect}
 use Rattle.flash.specs.declared.step.Advanced.{Advanced}
-use Rattle.flash.specs.Lengths.{lengthsFitOf}
 use Rattle.flash.specs.Effect.{effectOf}
 
 -- declines 1, 2, 3 and 6
 unfoldable pub stepDeclineOf : Geometry → Device → ℕ → ℕ → ℕ → Decline
-stepDeclineOf g d one two sram =
-    pick (inRangeOf g)
-    (pick (lengthsFitOf g one two sram)
-    (pick (possibleOf g d)
-    (pick (running d) Decline.Accepted Decline.Idle)
-    Decline.Device)
-    Decline.Length)
-    Decline.Geometry
+stepDeclineOf g d one two sram = firstOf (openingOf g d (one ∷ two ∷ []) sram) (pick (running d) Decline.Accepted Decline.Idle)
 
 abbrev pub advanced : Device → Bool → Advanced
 advanced d event = record { device = d; event = event }

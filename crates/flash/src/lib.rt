@@ -1,4 +1,3 @@
 // Flash steps over two lent banks: what the next step of a running operation does, and one step.
 pub mod effect;
-pub mod lengths;
 pub mod step;

@@ -3,19 +3,19 @@
 ghost use mathlib.Core.Path.{_≡_};
 ghost use Prim.Native.Nat.{_+_, _*_, _≤_};
 ghost use lib.ListN.{length};
-ghost use Rattle.flash.specs.Effect.{Runs};
-ghost use Rattle.flash.specs.Step.{stepDeclineOf, advanceOf, after, oneAfter, twoAfter, stepOf};
+ghost use Rattle.geometry.specs.Banks.{bankWordsOf};
+ghost use Rattle.flash.specs.Effect.{Runs, effectOf};
+ghost use Rattle.flash.specs.Step.{stepDeclineOf, advanceOf, after, oneAfter, twoAfter, stepAcceptedOf, stepOf};
 use crate::effect::next_effect;
 use crate::effect::write;
-use crate::lengths::lengths_fit;
+use device::opening::opening;
 use device::operation::length;
 use device::operation::op;
-use device::possible::is_possible;
 use device::record::Device;
 use device::registers::Nvmcon;
 use geometry::banks::Geometry;
-use geometry::banks::in_range;
 use geometry::decline::Decline;
+use geometry::lent::Lent;
 use words::word::clear;
 use words::word::has;
 
@@ -35,14 +35,9 @@ pub struct Advanced {
 fn step_decline(g: Geometry, d: Device, one: usize, two: usize, sram: usize) -> Decline
     ensures { λ r. ⌜ r ≡ stepDeclineOf g d one two sram ⌝ }
 {
-    if !in_range(g) {
-        return Decline::Geometry;
-    }
-    if !lengths_fit(g, one, two, sram) {
-        return Decline::Length;
-    }
-    if !is_possible(g, d) {
-        return Decline::Device;
+    let decline = opening(g, d, Lent::Banks(one, two), sram);
+    if !decline.is_accepted() {
+        return decline;
     }
     if !has(d.nvmcon.0, Nvmcon::WR) {
         return Decline::Idle;
@@ -58,8 +53,8 @@ fn advance(g: Geometry, d: Device, aborts: bool) -> Advanced
     let mut device = d;
     let next = d.step + 1;
     if aborts {
-        let con = clear(d.nvmcon.0, Nvmcon::WR);
-        device.nvmcon.0 = con;
+        let nvmcon = Nvmcon::new(clear(d.nvmcon.0, Nvmcon::WR));
+        device.nvmcon = nvmcon;
         device.step = 0;
         return Advanced {
             device,
@@ -67,8 +62,8 @@ fn advance(g: Geometry, d: Device, aborts: bool) -> Advanced
         };
     }
     if next == length(g, op(d)) {
-        let con = clear(d.nvmcon.0, Nvmcon::WR + Nvmcon::WRERR);
-        device.nvmcon.0 = con;
+        let nvmcon = Nvmcon::new(clear(d.nvmcon.0, Nvmcon::WR + Nvmcon::WRERR));
+        device.nvmcon = nvmcon;
         device.step = 0;
         return Advanced {
             device,
@@ -100,7 +95,31 @@ pub fn apply(
     write(one, two, second, quad, words);
 }
 
-// One step: one quad, ascending.
+// A step that is not declined: one quad, ascending.
+pub fn step_accepted(
+    g: Geometry,
+    d: Device,
+    one: &mut [u32],
+    two: &mut [u32],
+    sram: &[u32],
+) -> Stepped
+    requires { ⌜ Runs g d ⌝ }
+    requires { ⌜ (length (now one) ≡ bankWordsOf g) × (length (now two) ≡ bankWordsOf g) ⌝ }
+    ensures { λ r. ⌜ after (r .decline) (r .device) (now (one .exit)) (now (two .exit)) (r .event) ≡ stepAcceptedOf g d (now (one .entry)) (now (two .entry)) (effectOf g d (now (one .entry)) (now (two .entry)) (now (sram .entry))) ⌝ }
+{
+    let e = next_effect(g, d, one, two, sram);
+    let words = e.intended;
+    apply(one, two, e.writes, e.second, e.quad, words);
+    let a = advance(g, d, e.aborts);
+    let device = a.device;
+    Stepped {
+        decline: Decline::Accepted,
+        device,
+        event: a.event,
+    }
+}
+
+// One step of the running operation.
 pub fn step(g: Geometry, d: Device, one: &mut [u32], two: &mut [u32], sram: &[u32]) -> Stepped
     ensures { λ r. ⌜ after (r .decline) (r .device) (now (one .exit)) (now (two .exit)) (r .event) ≡ stepOf g d (now (one .entry)) (now (two .entry)) (now (sram .entry)) ⌝ }
 {
@@ -112,14 +131,5 @@ pub fn step(g: Geometry, d: Device, one: &mut [u32], two: &mut [u32], sram: &[u3
             event: false,
         };
     }
-    let e = next_effect(g, d, one, two, sram);
-    let words = e.intended;
-    apply(one, two, e.writes, e.second, e.quad, words);
-    let a = advance(g, d, e.aborts);
-    let device = a.device;
-    Stepped {
-        decline: Decline::Accepted,
-        device,
-        event: a.event,
-    }
+    step_accepted(g, d, one, two, sram)
 }

@@ -1,10 +1,9 @@
 -- The bench values hold: by computation, and where they speak of any word, by the laws.
 -- Assumes nothing.
 use mathlib.Core.Path.{_≡_, refl, ap, _∙_}
-use Prim.Native.Nat.{ℕ, _+_, _%_, _*_}
+use Prim.Native.Nat.{ℕ, _+_, _%_}
 use borrow.Author.Tests.{le-ltb}
 use native.Mathlib.Nat.{le-refl}
-use Rattle.geometry.specs.Banks.{roundDownOf}
 use Rattle.geometry.specs.Sequence.{complementOf, validOf, sequenceWordOf, nextSequenceOf, tseqOf}
 use Rattle.geometry.specs.Bench.{Bench}
 use Rattle.geometry.proofs.SequenceLaws.{both-valid, only-second}
@@ -20,5 +19,4 @@ bench =
       next-of-one = λ w e. ap (λ (t : ℕ). sequenceWordOf ((t + 1) % 65536)) e;
       equal-first = λ w v. both-valid w w v v ∙ le-ltb (tseqOf w) (tseqOf w) (le-refl _);
       only-second = only-second;
-      page-rounds = λ g e. ap (λ (q : ℕ). roundDownOf 0x1D00_00FF (128 * q)) e;
     }

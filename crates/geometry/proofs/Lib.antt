@@ -1,4 +1,5 @@
 pub mod DeclineLaws
+pub mod LentLaws
 pub mod SizeLaws
 pub mod WindowLaws
 pub mod SequenceLaws

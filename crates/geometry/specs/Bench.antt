@@ -3,8 +3,6 @@ use Prim.Native.Nat.{ℕ}
 use mathlib.Core.Path.{_≡_}
 use mathlib.Core.Bool.{true, false}
 use Rattle.words.specs.Quad.{wordAt}
-use Rattle.geometry.specs.declared.banks.Geometry.{Geometry}
-use Rattle.geometry.specs.Banks.{pageBytesOf, roundDownOf}
 use Rattle.geometry.specs.Sequence.{tseqOf, validOf, bfswapOf, nextSequenceOf}
 
 pub record Bench : Type 0 where
@@ -21,5 +19,3 @@ pub record Bench : Type 0 where
   pub equal-first : (w : ℕ) → validOf w ≡ true → bfswapOf w w ≡ false
   -- "Only bank 2 valid: BFSWAP 1"
   pub only-second : (w v : ℕ) → validOf w ≡ false → validOf v ≡ true → bfswapOf w v ≡ true
-  -- "Q=1: 0x1D0000FF rounds to page 0x1D000080"
-  pub page-rounds : (g : Geometry) → g .q ≡ 1 → roundDownOf 0x1D00_00FF (pageBytesOf g) ≡ 0x1D00_0080

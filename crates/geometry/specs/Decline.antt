@@ -2,6 +2,7 @@
 use Prim.Native.Nat.{ℕ}
 use mathlib.Core.Bool.{Bool}
 use lib.Dec.{eqb}
+use Rattle.words.specs.Word.{pick}
 use Rattle.geometry.specs.declared.decline.Decline.{Decline}
 use Rattle.geometry.specs.declared.decline.Decline.the-variants.{Accepted, Geometry, Length, Device, Register, Running, Idle, ResetKind, Address, Busy, Sequence, LastSequence, Protection, Place, Script}
 
@@ -25,3 +26,7 @@ numberOf Script = 14
 -- the call was carried out
 abbrev pub acceptedOf : Decline → Bool
 acceptedOf d = eqb (numberOf d) 0
+
+-- "The lowest number that applies is returned": the first decline, where it applies, else the other
+abbrev pub firstOf : Decline → Decline → Decline
+firstOf first other = pick (acceptedOf first) other first

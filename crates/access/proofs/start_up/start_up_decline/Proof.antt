@@ -1,8 +1,7 @@
 -- The first test that fails decides.
-use borrow.Author.Tests.{not-true, not-false}
-use mathlib.Core.Path.{sym, _∙_}
 use borrow.Author.Needs.{needs}
-use Rattle.geometry.proofs.SizeLaws.{in-range}
+use mathlib.Core.Path.{sym, _∙_}
+use Rattle.geometry.proofs.DeclineLaws.{stopped, went-on}
 use Rattle.access.specs.StartUp.{startUpDeclineOf}
 use Rattle.access.proofs.start_up.start_up_decline.Statement.{statement}
 use Rattle.access.proofs.start_up.start_up_decline.Tie as tie
@@ -12,21 +11,9 @@ unfolding startUpDeclineOf
 start-up-decline-spec =
     tie.close
     (tie.spec
-    (λ c κs. search needs)
-    (λ c. rw (sym (c .before .in-range .ensures) ∙ not-true _ (c .if1 .taken)))
-    (λ c κs. in-range _ (sym (c .before .in-range .ensures) ∙ not-false _ (c .if1 .left)))
-    (λ c. rw (
-      sym (c .before .before .before .in-range .ensures) ∙ not-false _ (c .before .before .if1 .left),
-      sym (c .before .is-possible .ensures) ∙ not-true _ (c .if2 .taken),
-    ))
-    (λ c κs. search needs)
-    (λ c. rw (
-      sym (c .before .before .before .before .before .in-range .ensures) ∙ not-false _ (c .before .before .before .before .if1 .left),
-      sym (c .before .before .before .is-possible .ensures) ∙ not-false _ (c .before .before .if2 .left),
-      sym (c .before .has .ensures) ∙ c .if3 .taken,
-    ))
-    (λ c. rw (
-      sym (c .before .before .before .before .before .in-range .ensures) ∙ not-false _ (c .before .before .before .before .if1 .left),
-      sym (c .before .before .before .is-possible .ensures) ∙ not-false _ (c .before .before .if2 .left),
-      sym (c .before .has .ensures) ∙ c .if3 .left,
-    )))
+    (λ c. search needs)
+    (λ c. search needs)
+    (λ c. let e = c .before .before .opening .ensures in rw (stopped e (c .before .is-accepted .ensures) (c .if1 .taken)) e)
+    (λ c. search needs)
+    (λ c. rw (went-on (c .before .before .before .before .opening .ensures) (c .before .before .before .is-accepted .ensures) (c .before .before .if1 .left), sym (c .before .has .ensures) ∙ c .if2 .taken))
+    (λ c. rw (went-on (c .before .before .before .before .opening .ensures) (c .before .before .before .is-accepted .ensures) (c .before .before .if1 .left), sym (c .before .has .ensures) ∙ c .if2 .left)))

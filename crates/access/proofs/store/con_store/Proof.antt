@@ -10,18 +10,10 @@ unfolding conStoreOf
 con-store-spec =
     tie.close
     (tie.spec
-    (λ c κs. search needs)
-    (λ c κs. search needs)
-    (λ c κs. search needs)
-    (λ c κs. search needs)
-    (λ c. rw (
-      c .launch .ensures,
-      c .before .before .before .before .merge .ensures,
-      c .before .before .before .before .before .con-takes .ensures,
-      sym (c .before .before .launches .ensures) ∙ c .before .if1 .taken,
-    ))
-    (λ c. rw (
-      c .before .before .before .merge .ensures,
-      c .before .before .before .before .con-takes .ensures,
-      sym (c .before .launches .ensures) ∙ c .if1 .left,
-    )))
+    (λ c. search needs)
+    (λ c. search needs)
+    (λ c. search needs)
+    (λ c. search needs)
+    (λ c. search needs)
+    (λ c. rw (c .launch .ensures, c .before .before .before .new .ensures, c .before .before .before .before .merge .ensures, c .before .before .before .before .before .con-takes .ensures, sym (c .before .before .launches .ensures) ∙ c .before .if1 .taken))
+    (λ c. rw (c .before .before .new .ensures, c .before .before .before .merge .ensures, c .before .before .before .before .con-takes .ensures, sym (c .before .launches .ensures) ∙ c .if1 .left)))

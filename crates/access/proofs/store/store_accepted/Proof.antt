@@ -10,19 +10,10 @@ unfolding storeAcceptedOf
 store-accepted-spec =
     tie.close
     (tie.spec
-    (λ c κs. search needs)
-    (λ c κs. search needs)
-    (λ c κs. search needs)
-    (λ c. rw (
-      c .before .con-store .ensures,
-      c .before .before .before .wanted .ensures,
-      c .before .before .before .before .register .ensures,
-      c .before .before .if1 .taken,
-    ))
-    (λ c κs. search needs)
-    (λ c. rw (
-      c .applied .ensures,
-      c .before .before .wanted .ensures,
-      c .before .before .before .register .ensures,
-      ne-eqb _ _ (c .before .if1 .left),
-    )))
+    (λ c. search needs)
+    (λ c. search needs)
+    (λ c. search needs)
+    (λ c. search needs)
+    (λ c. rw (c .new .ensures, c .before .con-store .ensures, c .before .before .before .wanted .ensures, c .before .before .before .before .register .ensures, c .before .before .if1 .taken))
+    (λ c. search needs)
+    (λ c. rw (c .applied .ensures, c .before .before .wanted .ensures, c .before .before .before .register .ensures, ne-eqb _ _ (c .before .if1 .left))))

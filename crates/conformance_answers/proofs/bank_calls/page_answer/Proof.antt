@@ -10,7 +10,7 @@ use borrow.Author.Tests.{not-false}
 use Rattle.geometry.specs.Banks.{InRange, pageWordsOf}
 use Rattle.geometry.specs.Decline.{acceptedOf}
 use Rattle.controller.specs.Parts.{pageDeclineOf, pagePartOf}
-use Rattle.controller.proofs.PartsLaws.{page-lies}
+use Rattle.controller.proofs.AcceptedLaws.{page-lies}
 use Rattle.conformance_answers.proofs.bank_calls.page_answer.Statement.{statement}
 use Rattle.conformance_answers.proofs.bank_calls.page_answer.Tie as tie
 

@@ -3,7 +3,7 @@ use mathlib.Core.Path.{sym, ap, _∙_}
 use borrow.Author.Needs.{needs}
 use Rattle.geometry.specs.Decline.{acceptedOf}
 use Rattle.controller.specs.Parts.{lowerBankOf}
-use Rattle.controller.proofs.PartsLaws.{refused}
+use Rattle.words.proofs.BitLaws.{true-not-false}
 use Rattle.controller.proofs.parts.lower_bank.Statement.{statement}
 use Rattle.controller.proofs.parts.lower_bank.Tie as tie
 
@@ -38,4 +38,4 @@ lower-bank-spec =
     (λ c. search needs)
     (λ c.
     let declined = ap acceptedOf (sym (c .before .before .before .lower-bank-decline .ensures)) ∙ sym (c .before .before .is-accepted .ensures) ∙ c .before .if1 .left in
-    (refused declined, rw declined)))
+    (λ h. true-not-false (sym h ∙ declined), rw declined)))

@@ -1,8 +1,5 @@
--- The first test that fails decides.
-use borrow.Author.Tests.{eq-eqb, ne-eqb, not-true, not-false}
-use mathlib.Core.Path.{sym, _∙_}
+-- The opening alone.
 use borrow.Author.Needs.{needs}
-use Rattle.geometry.proofs.SizeLaws.{in-range}
 use Rattle.controller.specs.Parts.{lowerBankDeclineOf}
 use Rattle.controller.proofs.parts.lower_bank_decline.Statement.{statement}
 use Rattle.controller.proofs.parts.lower_bank_decline.Tie as tie
@@ -13,32 +10,4 @@ lower-bank-decline-spec =
     tie.close
     (tie.spec
     (λ c κs. search needs)
-    (λ c. rw (sym (c .before .in-range .ensures) ∙ not-true _ (c .if1 .taken)))
-    (λ c κs. in-range _ (sym (c .before .in-range .ensures) ∙ not-false _ (c .if1 .left)))
-    (λ c. search needs)
-    (λ c. rw (
-      sym (c .before .before .before .in-range .ensures) ∙ not-false _ (c .before .before .if1 .left),
-      ← c .before .bank-words .ensures,
-      ne-eqb _ _ (c .if2 .taken),
-    ))
-    (λ c. rw (
-      sym (c .before .before .before .before .in-range .ensures) ∙ not-false _ (c .before .before .before .if1 .left),
-      ← c .before .before .bank-words .ensures,
-      eq-eqb _ _ (c .before .if2 .left),
-      ne-eqb _ _ (c .if3 .taken),
-    ))
-    (λ c κs. in-range _ (sym (c .before .before .before .before .in-range .ensures) ∙ not-false _ (c .before .before .before .if1 .left)))
-    (λ c. rw (
-      sym (c .before .before .before .before .before .before .in-range .ensures) ∙ not-false _ (c .before .before .before .before .before .if1 .left),
-      ← c .before .before .before .before .bank-words .ensures,
-      eq-eqb _ _ (c .before .before .before .if2 .left),
-      eq-eqb _ _ (c .before .before .if3 .left),
-      sym (c .before .is-possible .ensures) ∙ not-true _ (c .if4 .taken),
-    ))
-    (λ c. rw (
-      sym (c .before .before .before .before .before .before .in-range .ensures) ∙ not-false _ (c .before .before .before .before .before .if1 .left),
-      ← c .before .before .before .before .bank-words .ensures,
-      eq-eqb _ _ (c .before .before .before .if2 .left),
-      eq-eqb _ _ (c .before .before .if3 .left),
-      sym (c .before .is-possible .ensures) ∙ not-false _ (c .if4 .left),
-    )))
+    (λ c. c .opening .ensures))

@@ -9,7 +9,8 @@ use borrow.Author.Needs.{needs}
 use Rattle.geometry.specs.Banks.{InRange, pageWordsOf}
 use Rattle.geometry.specs.Decline.{acceptedOf}
 use Rattle.controller.specs.Parts.{pageDeclineOf, pagePartOf}
-use Rattle.controller.proofs.PartsLaws.{refused, page-lies}
+use Rattle.words.proofs.BitLaws.{true-not-false}
+use Rattle.controller.proofs.AcceptedLaws.{page-lies}
 use Rattle.controller.proofs.parts.page.Statement.{statement}
 use Rattle.controller.proofs.parts.page.Tie as tie
 
@@ -47,4 +48,4 @@ page-spec =
     (λ c. search needs)
     (λ c.
     let declined = ap acceptedOf (sym (c .before .before .before .page-decline .ensures)) ∙ sym (c .before .before .is-accepted .ensures) ∙ c .before .if1 .left in
-    (refused declined, rw declined)))
+    (λ h. true-not-false (sym h ∙ declined), rw declined)))

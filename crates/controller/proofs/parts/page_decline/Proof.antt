@@ -1,9 +1,9 @@
 -- The first test that fails decides.
-use borrow.Author.Tests.{eq-eqb, ne-eqb, le-ltb, lt-ltb, not-true, not-false}
-use mathlib.Core.Path.{sym, _∙_}
 use borrow.Author.Needs.{needs}
+use borrow.Author.Tests.{lt-ltb, le-ltb}
 use native.Mathlib.Omega.{arith}
-use Rattle.geometry.proofs.SizeLaws.{in-range}
+use Rattle.geometry.proofs.DeclineLaws.{stopped, went-on}
+use Rattle.geometry.proofs.LentLaws.{fits}
 use Rattle.controller.specs.Parts.{pageDeclineOf}
 use Rattle.controller.proofs.parts.page_decline.Statement.{statement}
 use Rattle.controller.proofs.parts.page_decline.Tie as tie
@@ -14,26 +14,8 @@ page-decline-spec =
     tie.close
     (tie.spec
     (λ c κs. search needs)
-    (λ c. rw (sym (c .before .in-range .ensures) ∙ not-true _ (c .if1 .taken)))
-    (λ c κs. in-range _ (sym (c .before .in-range .ensures) ∙ not-false _ (c .if1 .left)))
-    (λ c. search needs)
-    (λ c. rw (
-      sym (c .before .before .before .in-range .ensures) ∙ not-false _ (c .before .before .if1 .left),
-      ← c .before .bank-words .ensures,
-      ne-eqb _ _ (c .if2 .taken),
-    ))
-    (λ c κs. in-range _ (sym (c .before .before .before .in-range .ensures) ∙ not-false _ (c .before .before .if1 .left)))
-    (λ c. rw (
-      sym (c .before .before .before .before .before .in-range .ensures) ∙ not-false _ (c .before .before .before .before .if1 .left),
-      ← c .before .before .before .bank-words .ensures,
-      eq-eqb _ _ (c .before .before .if2 .left),
-      ← c .before .pages .ensures,
-      le-ltb (c .before .before .before .before .before .before .before .args .page) (c .before .pages .result) (omega (arith, c .if3 .taken)),
-    ))
-    (λ c. rw (
-      sym (c .before .before .before .before .before .in-range .ensures) ∙ not-false _ (c .before .before .before .before .if1 .left),
-      ← c .before .before .before .bank-words .ensures,
-      eq-eqb _ _ (c .before .before .if2 .left),
-      ← c .before .pages .ensures,
-      lt-ltb (c .before .before .before .before .before .before .before .args .page) (c .before .pages .result) (omega (arith, c .if3 .left)),
-    )))
+    (λ c κs. search needs)
+    (λ c. let e = c .before .before .lent-decline .ensures in rw (stopped e (c .before .is-accepted .ensures) (c .if1 .taken)) e)
+    (λ c κs. fits _ _ _ (went-on (c .before .before .lent-decline .ensures) (c .before .is-accepted .ensures) (c .if1 .left)) .range)
+    (λ c. rw (went-on (c .before .before .before .before .lent-decline .ensures) (c .before .before .before .is-accepted .ensures) (c .before .before .if1 .left), ← c .before .pages .ensures, le-ltb (c .before .before .before .before .before .before .args .page) (c .before .pages .result) (omega (arith, c .if2 .taken))))
+    (λ c. rw (went-on (c .before .before .before .before .lent-decline .ensures) (c .before .before .before .is-accepted .ensures) (c .before .before .if1 .left), ← c .before .pages .ensures, lt-ltb (c .before .before .before .before .before .before .args .page) (c .before .pages .result) (omega (arith, c .if2 .left)))))

@@ -1,8 +1,7 @@
 -- The first test that fails decides.
-use borrow.Author.Tests.{le-ltb, lt-ltb, not-true, not-false}
-use mathlib.Core.Path.{sym, _∙_}
 use borrow.Author.Needs.{needs}
-use Rattle.geometry.proofs.SizeLaws.{in-range}
+use borrow.Author.Tests.{lt-ltb, le-ltb}
+use Rattle.geometry.proofs.DeclineLaws.{stopped, went-on}
 use Rattle.controller.specs.Reset.{resetDeclineOf}
 use Rattle.controller.proofs.reset.reset_decline.Statement.{statement}
 use Rattle.controller.proofs.reset.reset_decline.Tie as tie
@@ -13,27 +12,7 @@ reset-decline-spec =
     tie.close
     (tie.spec
     (λ c κs. search needs)
-    (λ c. rw (sym (c .before .in-range .ensures) ∙ not-true _ (c .if1 .taken)))
-    (λ c κs. in-range _ (sym (c .before .in-range .ensures) ∙ not-false _ (c .if1 .left)))
-    (λ c. rw (
-      sym (c .before .before .before .in-range .ensures) ∙ not-false _ (c .before .before .if1 .left),
-      sym (c .before .lengths-fit .ensures) ∙ not-true _ (c .if2 .taken),
-    ))
-    (λ c κs. in-range _ (sym (c .before .before .before .in-range .ensures) ∙ not-false _ (c .before .before .if1 .left)))
-    (λ c. rw (
-      sym (c .before .before .before .before .before .in-range .ensures) ∙ not-false _ (c .before .before .before .before .if1 .left),
-      sym (c .before .before .before .lengths-fit .ensures) ∙ not-false _ (c .before .before .if2 .left),
-      sym (c .before .is-possible .ensures) ∙ not-true _ (c .if3 .taken),
-    ))
-    (λ c. rw (
-      sym (c .before .before .before .before .before .before .in-range .ensures) ∙ not-false _ (c .before .before .before .before .before .if1 .left),
-      sym (c .before .before .before .before .lengths-fit .ensures) ∙ not-false _ (c .before .before .before .if2 .left),
-      sym (c .before .before .is-possible .ensures) ∙ not-false _ (c .before .if3 .left),
-      lt-ltb _ _ (c .if4 .taken),
-    ))
-    (λ c. rw (
-      sym (c .before .before .before .before .before .before .in-range .ensures) ∙ not-false _ (c .before .before .before .before .before .if1 .left),
-      sym (c .before .before .before .before .lengths-fit .ensures) ∙ not-false _ (c .before .before .before .if2 .left),
-      sym (c .before .before .is-possible .ensures) ∙ not-false _ (c .before .if3 .left),
-      le-ltb _ _ (c .if4 .left),
-    )))
+    (λ c κs. search needs)
+    (λ c. let e = c .before .before .opening .ensures in rw (stopped e (c .before .is-accepted .ensures) (c .if1 .taken)) e)
+    (λ c. rw (went-on (c .before .before .before .opening .ensures) (c .before .before .is-accepted .ensures) (c .before .if1 .left), lt-ltb _ _ (c .if2 .taken)))
+    (λ c. rw (went-on (c .before .before .before .opening .ensures) (c .before .before .is-accepted .ensures) (c .before .if1 .left), le-ltb _ _ (c .if2 .left))))

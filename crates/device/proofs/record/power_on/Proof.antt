@@ -7,22 +7,31 @@ pub power-on-spec : {M : Type 1} → statement M
 power-on-spec =
     tie.close
     (tie.spec
-    (λ c κs. search needs)
-    (λ c κs. search needs)
-    (λ c κs. search needs)
-    (λ c κs. search needs)
-    (λ c κs. search needs)
-    (λ c κs. search needs)
-    (λ c κs. search needs)
-    (λ c κs. search needs)
-    (λ c κs. search needs)
-    (λ c κs. search needs)
-    (λ c κs. search needs)
-    (λ c. rw (
-      c .before .before .before .before .before .before .before .before .before .before .reset-value .ensures,
-      c .before .before .before .before .before .before .before .before .before .reset-value2 .ensures,
-      c .before .before .before .before .before .before .before .before .reset-value3 .ensures,
-      c .before .before .before .before .before .before .before .reset-value4 .ensures,
+    (λ c. search needs)
+    (λ c. search needs)
+    (λ c. search needs)
+    (λ c. search needs)
+    (λ c. search needs)
+    (λ c. search needs)
+    (λ c. search needs)
+    (λ c. search needs)
+    (λ c. search needs)
+    (λ c. search needs)
+    (λ c. search needs)
+    (λ c. search needs)
+    (λ c. search needs)
+    (λ c. search needs)
+    (λ c. search needs)
+    (λ c.
+    rw (
+      c .before .before .before .before .before .before .before .before .before .before .before .before .before .new .ensures,
+      c .before .before .before .before .before .before .before .before .before .before .before .before .before .before .reset-value .ensures,
+      c .before .before .before .before .before .before .before .before .before .before .before .new2 .ensures,
+      c .before .before .before .before .before .before .before .before .before .before .before .before .reset-value2 .ensures,
+      c .before .before .before .before .before .before .before .before .before .new3 .ensures,
+      c .before .before .before .before .before .before .before .before .before .before .reset-value3 .ensures,
+      c .before .before .before .before .before .before .before .new4 .ensures,
+      c .before .before .before .before .before .before .before .before .reset-value4 .ensures,
       c .before .before .before .before .before .before .reset-value5 .ensures,
       c .before .before .before .before .before .reset-value6 .ensures,
       c .before .before .before .before .reset-value7 .ensures,

@@ -14,24 +14,12 @@ advance-spec =
     (tie.spec
     (λ c. omega (arith, steps-high (c .before .args .g) (c .before .args .d) (c .before .pre)))
     (λ c κs. search needs)
-    (λ c. rw (
-      c .before .clear .ensures,
-      c .before .before .if1 .taken,
-    ))
+    (λ c κs. search needs)
+    (λ c. rw (c .new .ensures, c .before .clear .ensures, c .before .before .if1 .taken))
     (λ c κs. search needs)
     (λ c κs. c .before .before .before .pre .range)
     (λ c. search needs)
     (λ c κs. search needs)
-    (λ c. rw (
-      c .before .clear2 .ensures,
-      ← c .before .before .before .before .op .ensures,
-      ← c .before .before .before .length .ensures,
-      c .before .before .before .before .before .if1 .left,
-      eq-eqb _ _ (c .before .before .if2 .taken),
-    ))
-    (λ c. rw (
-      ← c .before .before .op .ensures,
-      ← c .before .length .ensures,
-      c .before .before .before .if1 .left,
-      ne-eqb _ _ (c .if2 .left),
-    )))
+    (λ c κs. search needs)
+    (λ c. rw (c .new2 .ensures, c .before .clear2 .ensures, ← c .before .before .before .before .op .ensures, ← c .before .before .before .length .ensures, c .before .before .before .before .before .if1 .left, eq-eqb _ _ (c .before .before .if2 .taken)))
+    (λ c. rw (← c .before .before .op .ensures, ← c .before .length .ensures, c .before .before .before .if1 .left, ne-eqb _ _ (c .if2 .left))))

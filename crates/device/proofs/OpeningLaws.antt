@@ -1,0 +1,38 @@
+-- What the opening tells where none of declines 1, 2 and 3 applies. Assumes nothing.
+use mathlib.Core.Path.{_≡_, refl}
+use mathlib.Core.Bool.{true}
+use mathlib.Core.List.{List, [], _∷_}
+use Prim.Native.Nat.{ℕ, _≤_}
+use lib.Dec.{eqb}
+use borrow.Author.Tests.{eq-eqb, le-leb}
+use Rattle.geometry.specs.declared.banks.Geometry.{Geometry}
+use Rattle.geometry.specs.declared.decline.Decline.{Decline}
+use Rattle.geometry.specs.Banks.{inRangeOf, bankWordsOf}
+use Rattle.geometry.specs.Decline.{acceptedOf}
+use Rattle.geometry.specs.Lent.{bankLengths, lengthsFitOf, lentDeclineOf}
+use Rattle.geometry.proofs.DeclineLaws.{held, neither}
+use Rattle.geometry.proofs.LentLaws.{EachBank, Fits, fits}
+use Rattle.device.specs.declared.record.Device.{Device}
+use Rattle.device.specs.Possible.{possibleOf}
+use Rattle.device.specs.Opening.{openingOf}
+
+-- what is lent fits, and the device is possible
+pub record Ready (g : Geometry) (d : Device) (lengths : List ℕ) (sram : ℕ) : Type 0 where
+  pub lent : Fits g lengths sram
+  pub possible : possibleOf g d ≡ true
+
+pub ready : (g : Geometry) (d : Device) (lengths : List ℕ) (sram : ℕ) → acceptedOf (openingOf g d lengths sram) ≡ true → Ready g d lengths sram
+unfolding openingOf
+ready g d lengths sram h =
+    let s = neither (lentDeclineOf g lengths sram) _ h in
+    record { lent = fits g lengths sram (s .0); possible = held (possibleOf g d) Decline.Accepted Decline.Device refl (s .1) .0 }
+
+-- the other way: a call of which each of these holds is not declined by its opening
+each-fits : (g : Geometry) (lengths : List ℕ) → EachBank g lengths → bankLengths g lengths ≡ true
+each-fits g [] h = refl
+each-fits g (words ∷ rest) h = rw (eq-eqb words (bankWordsOf g) (h .0)) (each-fits g rest (h .1))
+
+pub opens : (g : Geometry) (d : Device) (lengths : List ℕ) (sram : ℕ) → inRangeOf g ≡ true → EachBank g lengths → sram ≤ 16384 → possibleOf g d ≡ true
+    → openingOf g d lengths sram ≡ Decline.Accepted
+unfolding openingOf lentDeclineOf lengthsFitOf
+opens g d lengths sram listed banks room can = rw (listed, each-fits g lengths banks, le-leb sram 16384 room, can)
