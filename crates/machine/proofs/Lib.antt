@@ -6,4 +6,6 @@ pub mod ProtectionLaws
 pub mod WriteLaws
 pub mod ProtectedWordLaws
 pub mod MachineLaws
+pub mod RestLaws
+pub mod StartUpLaws
 pub mod Machine

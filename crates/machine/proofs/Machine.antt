@@ -9,6 +9,7 @@ use Rattle.machine.specs.Machine.Operation.{step, reset}
 use Rattle.machine.proofs.WriteLaws.{writes-one-quad, one-quad}
 use Rattle.machine.proofs.ProtectedWordLaws.{protected-kept}
 use Rattle.machine.proofs.MachineLaws.{run-sound, declined-same, compared}
+use Rattle.machine.proofs.StartUpLaws.{start-up-runs, start-up-accepted, start-up-sound, start-up-cut}
 
 pub controller : Controller
 unfolding possibleOf implementedOf
@@ -22,4 +23,8 @@ controller =
       one-quad-torn = λ g s sram kind mask. one-quad g s _ (writes-one-quad g s (reset sram kind mask));
       protected-kept = protected-kept;
       compared = compared;
+      start-up-runs = start-up-runs;
+      start-up-accepted = start-up-accepted;
+      start-up-sound = start-up-sound;
+      start-up-cut = start-up-cut;
     }

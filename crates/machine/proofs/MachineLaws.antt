@@ -3,7 +3,7 @@
 -- Assumes nothing.
 use mathlib.Core.Path.{_≡_, refl, sym, _∙_}
 use mathlib.Core.Bool.{Bool, true, false}
-use mathlib.Core.List.{List, [], _∷_}
+use mathlib.Core.List.{List, [], _∷_, _++_}
 use Prim.Native.Nat.{ℕ}
 use lib.Dec.{eqb}
 use Rattle.words.proofs.PickLaws.{pick-both}
@@ -19,7 +19,7 @@ use Rattle.access.specs.Store.{storeDeclineOf, storeAcceptedOf, storeOf, readDe
 use Rattle.flash.proofs.AcceptedLaws.{step-ready}
 use Rattle.controller.specs.Reset.{comparedOf}
 use Rattle.controller.proofs.AcceptedLaws.{reset-ready}
-use Rattle.machine.specs.Machine.{Operation, State, state, left, answerOf, transitionOf, runOf, BringsWord, BringWords, Sound}
+use Rattle.machine.specs.Machine.{Operation, State, state, left, answerOf, transitionOf, runOf, AllAccepted, BringsWord, BringWords, Sound}
 use Rattle.machine.specs.Machine.Operation.{store, registerRead, flashRead, step, reset}
 use Rattle.machine.proofs.StoreLaws.{store-possible, read-leaves-possible}
 use Rattle.machine.proofs.DeviceLaws.{advance-possible, reset-possible, reset-swap}
@@ -49,7 +49,7 @@ by-read g d r P yes′ no′ = go (acceptedOf (readDeclineOf g d r)) refl
     go false e = rw e (no′ e)
 
 -- a store and a read that are carried out answer so
-store-answers : (g : Geometry) (d : Device) (r form value : ℕ) → acceptedOf (storeDeclineOf g d r form) ≡ true
+pub store-answers : (g : Geometry) (d : Device) (r form value : ℕ) → acceptedOf (storeDeclineOf g d r form) ≡ true
     → acceptedOf (storeOf g d r form value .decline) ≡ true
 unfolding storeOf storeAcceptedOf
 store-answers g d r form value on = rw on (pick-both (λ (a : Stored). acceptedOf (a .decline) ≡ true) (eqb r 0) refl refl)
@@ -85,6 +85,16 @@ transition-sound g s o w h =
 pub run-sound : (g : Geometry) (s : State) → Sound g s → (l : List Operation) → BringWords l → Sound g (runOf g s l)
 run-sound g s h [] w = h
 run-sound g s h (o ∷ l) w = run-sound g (transitionOf g s o) (transition-sound g s o (w .0) h) l (w .1)
+
+-- ---- lists that follow one another
+pub run-append : (g : Geometry) (s : State) (first other : List Operation) → runOf g s (first ++ other) ≡ runOf g (runOf g s first) other
+run-append g s [] other = refl
+run-append g s (o ∷ first) other = run-append g (transitionOf g s o) first other
+
+pub all-accepted-append : (g : Geometry) (s : State) (first other : List Operation)
+    → AllAccepted g s first → AllAccepted g (runOf g s first) other → AllAccepted g s (first ++ other)
+all-accepted-append g s [] other a b = b
+all-accepted-append g s (o ∷ first) other a b = (a .0, all-accepted-append g (transitionOf g s o) first other (a .1) b)
 
 -- ---- a declined operation changes nothing
 pub declined-same : (g : Geometry) (s : State) (o : Operation) → acceptedOf (answerOf g s o) ≡ false → transitionOf g s o ≡ s

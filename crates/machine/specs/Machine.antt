@@ -5,7 +5,7 @@ use mathlib.Core.Path.{_≡_}
 use mathlib.Core.Bool.{Bool, true, false, not}
 use mathlib.Core.List.{List, [], _∷_}
 use mathlib.Core.Logic.{_⊎_}
-use lib.ListN.{length}
+use lib.ListN.{length, take}
 use Rattle.words.specs.Word.{pick}
 use Rattle.words.specs.Quad.{wordAt}
 use Rattle.geometry.specs.declared.banks.Geometry.{Geometry}
@@ -18,6 +18,7 @@ use Rattle.device.specs.Registers.{withinOf}
 use Rattle.device.specs.Record.{registerOf, powerOn, bfswap}
 use Rattle.device.specs.Possible.{possibleOf}
 use Rattle.access.specs.Store.{storeOf, registerReadOf}
+use Rattle.access.specs.StartUp.{Access, startUpStores, startUpOf}
 use Rattle.flash.specs.Effect.{stepLocationOf}
 use Rattle.flash.specs.Step.{After, stepOf}
 use Rattle.controller.specs.Reset.{comparedOf, resetOf}
@@ -68,6 +69,16 @@ transitionOf g s (reset sram kind mask) = left (resetOf g (s .device) (s .one) (
 abbrev pub runOf : Geometry → State → List Operation → State
 runOf g s [] = s
 runOf g s (o ∷ rest) = runOf g (transitionOf g s o) rest
+
+-- each operation of a list is carried out, none declined, each in the state that those before it left
+abbrev pub AllAccepted : Geometry → State → List Operation → Type 0
+AllAccepted g s [] = Unit {0}
+AllAccepted g s (o ∷ rest) = (acceptedOf (answerOf g s o) ≡ true) × AllAccepted g (transitionOf g s o) rest
+
+-- stores in a row, as "the three key stores", as operations
+abbrev pub storeOperations : List Access → List Operation
+storeOperations [] = []
+storeOperations (a ∷ rest) = store (a .register) (a .form) (a .value) ∷ storeOperations rest
 
 -- a store brings a word of 32 bits, as every caller's does
 abbrev pub BringsWord : Operation → Type 0
@@ -123,7 +134,17 @@ pub record Controller : Type 1 where
   -- no operation changes a word of either bank that lies in a page protected at that time
   pub protected-kept : (g : Geometry) (s : State) (o : Operation) (second : Bool) (v : ℕ) → protectedWordOf g (s .device) second v ≡ true
       → wordAt (bankOf (transitionOf g s o) second) v ≡ wordAt (bankOf s second) v
-  -- ---- reset
+  -- ---- reset and start-up
   -- after a reset BFSWAP is the comparison of what the banks then hold
   pub compared : (g : Geometry) (s : State) (sram : List ℕ) (kind : ℕ) (mask : List ℕ) → acceptedOf (answerOf g s (reset sram kind mask)) ≡ true
       → let t = transitionOf g s (reset sram kind mask) in bfswap (t .device) ≡ comparedOf g (t .one) (t .two)
+  -- a start-up, a declined one too, is the run of its stores as operations
+  pub start-up-runs : (g : Geometry) (s : State)
+      → state (startUpOf g (s .device) .device) (s .one) (s .two) ≡ runOf g s (storeOperations (startUpStores (s .device)))
+  -- and of an accepted one none of them is declined
+  pub start-up-accepted : (g : Geometry) (s : State) → acceptedOf (startUpOf g (s .device) .decline) ≡ true
+      → AllAccepted g s (storeOperations (startUpStores (s .device)))
+  -- it leaves a possible device
+  pub start-up-sound : (g : Geometry) (s : State) → Sound g s → Sound g (state (startUpOf g (s .device) .device) (s .one) (s .two))
+  -- and so does every prefix of its stores: a start-up that was cut
+  pub start-up-cut : (g : Geometry) (s : State) → Sound g s → (n : ℕ) → Sound g (runOf g s (take n (storeOperations (startUpStores (s .device)))))
