@@ -4,28 +4,25 @@ use mathlib.Core.Path.{_≡_, refl, sym, ap, _∙_}
 use mathlib.Core.Bool.{Bool, true, false, _||_, or-false, and-true}
 use mathlib.Core.List.{List}
 use Prim.Native.Nat.{ℕ, _+_}
-use native.Mathlib.Omega.{arith}
 use lib.Dec.{eqb, ltb}
 use lib.ListN.{set}
 use lib.Seq.{getD-set-other}
 use lib.Bits.{bitOr}
 use borrow.Author.Tests.{eqb-true, ne-eqb}
-use Rattle.words.specs.Word.{pick, bit, hasOf, mergeOf, clearOf}
+use Rattle.words.specs.Word.{pick, bit, hasOf, mergeOf}
 use Rattle.words.specs.Quad.{wordAt}
 use Rattle.words.proofs.PickLaws.{pick-both}
 use Rattle.words.proofs.BitLaws.{bit-or, clear-bit}
 use Rattle.words.proofs.MaskLaws.{Within, outside-bit, merge-keeps}
 use Rattle.geometry.specs.declared.banks.Geometry.{Geometry}
-use Rattle.geometry.specs.Decline.{acceptedOf}
 use Rattle.device.specs.declared.record.Device.{Device}
 use Rattle.access.specs.declared.launch.Launched.{Launched}
-use Rattle.access.specs.declared.store.Stored.{Stored}
-use Rattle.device.specs.Registers.{WR, WRERR, LVDERR}
-use Rattle.device.specs.Record.{registerOf, withCon, opOf}
+use Rattle.device.specs.Registers.{WRERR, LVDERR}
+use Rattle.device.specs.Record.{registerOf, opOf}
 use Rattle.device.specs.Operation.{beginsOf}
-use Rattle.access.specs.Fields.{wantedOf, conTakesOf}
+use Rattle.access.specs.Fields.{conTakesOf}
 use Rattle.access.specs.Launch.{launched, launchOf}
-use Rattle.access.specs.Store.{storeDeclineOf, launchesOf, takenOf, conStoreOf, dataAfter, appliedOf, storeAcceptedOf, storeOf}
+use Rattle.access.specs.Store.{launchesOf, takenOf, conStoreOf, dataAfter, appliedOf}
 
 -- ---- NVMCON: a bit that does not take and is none of WR, WRERR and LVDERR stays
 module _ (g : Geometry) (d : Device) (k : ℕ) (apart : bit k 0xB000 ≡ false) where

@@ -1,22 +1,21 @@
 -- A step and a reset leave a possible device, and after a reset BFSWAP is the comparison.
 -- Assumes nothing.
-use mathlib.Core.Path.{_≡_, refl, sym, ap, _∙_}
-use mathlib.Core.Bool.{Bool, true, false, not, _&&_, _||_, or-true, or-false, and-true, and-false}
+use mathlib.Core.Path.{_≡_, refl, _∙_}
+use mathlib.Core.Bool.{Bool, true, false, not, _&&_, or-false, and-false}
 use mathlib.Core.List.{[], _∷_}
-use Prim.Native.Nat.{ℕ, zero, suc, _+_, _^_, _≤_, _<_}
+use Prim.Native.Nat.{ℕ, zero, suc, _+_, _^_, _<_}
 use native.Mathlib.Omega.{arith}
 use lib.Dec.{eqb, ltb, lit<}
-use lib.ListN.{getD}
 use lib.Bits.{bitOr}
 use borrow.Author.Tests.{eqb-false, lt-ltb, ltb-true}
-use Rattle.words.specs.Word.{pick, bit, hasOf, mergeOf, clearOf}
+use Rattle.words.specs.Word.{pick, bit, hasOf, clearOf}
 use Rattle.words.specs.Quad.{wordAt}
 use Rattle.words.proofs.PickLaws.{pick-both, and-both}
 use Rattle.words.proofs.BitLaws.{bit-or, clear-bit, has-bit}
 use Rattle.words.proofs.MaskLaws.{Within, merge-within, or-within, clear-within}
 use Rattle.geometry.specs.declared.banks.Geometry.{Geometry}
 use Rattle.device.specs.declared.record.Device.{Device}
-use Rattle.device.specs.Registers.{WR, WREN, WRERR, LVDERR, PFSWAP, BFSWAP, NVMERS, resets}
+use Rattle.device.specs.Registers.{WR, WRERR, LVDERR, BFSWAP, NVMERS}
 use Rattle.device.specs.Record.{powerOn, withCon, running, bfswap, opOf}
 use Rattle.device.specs.Operation.{beginsOf, lengthOf}
 use Rattle.device.specs.Possible.{runningOf, possibleOf}

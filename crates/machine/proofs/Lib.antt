@@ -2,6 +2,10 @@ pub mod StoreLaws
 pub mod StoreEquations
 pub mod ChangeLaws
 pub mod DeviceLaws
-pub mod MachineLaws
 pub mod ProtectionLaws
+pub mod WriteLaws
+pub mod ProtectedWordLaws
+pub mod MachineLaws
+pub mod RestLaws
+pub mod StartUpLaws
 pub mod Machine

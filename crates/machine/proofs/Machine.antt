@@ -1,14 +1,15 @@
 -- What holds of the controller, in one place. Assumes nothing.
 use Rattle.words.proofs.PickLaws.{and-both, all-below}
-use Rattle.geometry.proofs.SizeLaws.{in-range}
 use Rattle.device.specs.Record.{registerOf}
 use Rattle.device.specs.Registers.{withinOf}
 use Rattle.device.specs.Possible.{implementedOf, possibleOf}
 use Rattle.machine.specs.Machine.{Controller}
-use Rattle.flash.proofs.AcceptedLaws.{runs}
 use Rattle.machine.proofs.DeviceLaws.{power-on-possible}
-use Rattle.machine.proofs.MachineLaws.{run-sound, declined-same, compared, one-quad, one-quad-torn}
-use Rattle.machine.proofs.ProtectionLaws.{unprotected}
+use Rattle.machine.specs.Machine.Operation.{step, reset}
+use Rattle.machine.proofs.WriteLaws.{writes-one-quad, one-quad}
+use Rattle.machine.proofs.ProtectedWordLaws.{protected-kept}
+use Rattle.machine.proofs.MachineLaws.{run-sound, declined-same, compared}
+use Rattle.machine.proofs.StartUpLaws.{start-up-runs, start-up-accepted, start-up-sound, start-up-cut}
 
 pub controller : Controller
 unfolding possibleOf implementedOf
@@ -17,9 +18,13 @@ controller =
       stays-sound = run-sound;
       power-on = λ g one two a b. record { possible = power-on-possible g; first = a; other = b };
       declined-same = declined-same;
-      compared = compared;
       masked = λ g s h r l. all-below (λ r. withinOf r (registerOf (s .device) r)) 11 (and-both (implementedOf (s .device)) _ (h .possible) .0) r l;
-      one-quad = one-quad;
-      one-quad-torn = one-quad-torn;
-      unprotected = λ g ok s h on sram w. unprotected g (s .device) (s .one) (s .two) sram (runs g (s .device) (in-range g ok) (h .possible) on) w;
+      one-quad = λ g s sram. one-quad g s _ (writes-one-quad g s (step sram));
+      one-quad-torn = λ g s sram kind mask. one-quad g s _ (writes-one-quad g s (reset sram kind mask));
+      protected-kept = protected-kept;
+      compared = compared;
+      start-up-runs = start-up-runs;
+      start-up-accepted = start-up-accepted;
+      start-up-sound = start-up-sound;
+      start-up-cut = start-up-cut;
     }

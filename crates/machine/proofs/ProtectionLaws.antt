@@ -2,15 +2,15 @@
 -- page of the target is protected.
 -- Assumes nothing.
 use mathlib.Core.Path.{_≡_, refl, sym, ap, _∙_}
-use mathlib.Core.Bool.{Bool, true, false, not, _&&_, _||_}
+use mathlib.Core.Bool.{Bool, true, false, _||_}
 use mathlib.Core.List.{List}
-use Prim.Native.Nat.{ℕ, zero, suc, _+_, _-_, _*_, _/_, _≤_, _<_}
+use Prim.Native.Nat.{ℕ, zero, suc, _+_, _-_, _*_, _/_, _<_}
 use native.Mathlib.Nat.{not-suc-le-zero}
 use native.Mathlib.Decide.{decLe}
 use native.Mathlib.Omega.{arith}
 use lib.Arith.{digits-div}
-use lib.Dec.{eqb, ltb}
-use borrow.Author.Tests.{eqb-true, not-true}
+use lib.Dec.{eqb}
+use borrow.Author.Tests.{not-true}
 use Rattle.words.specs.Word.{pick}
 use Rattle.words.specs.Quad.{blankQuad}
 use Rattle.words.proofs.BitLaws.{true-not-false}
@@ -23,10 +23,9 @@ use Rattle.geometry.proofs.WindowLaws.{unit-kept, page-below}
 use Rattle.device.specs.declared.record.Device.{Device}
 use Rattle.device.specs.Record.{opOf, bfswap, pfswap}
 use Rattle.device.specs.Protection.{pwpOf, programProtectedOf, pageOffsetOf, bootProtectedOf, protectedOf, anyProtectedOf}
-use Rattle.device.specs.Operation.{unitOf, targetOf, pageProtectedOf, targetBeginsOf, regionBeginsOf, beginsAtOf, lengthOf}
-use Rattle.flash.specs.declared.effect.Effect.{Effect}
-use Rattle.flash.specs.Effect.{Runs, regionSteps, stepAtOf, stepLocationOf, blockedOf, oldQuadOf, effect, effectAtOf, effectOf}
-use Rattle.flash.proofs.EffectLaws.{begins-inside, none-above, runs-room, step-room, Room}
+use Rattle.device.specs.Operation.{unitOf, targetOf, targetBeginsOf, regionBeginsOf, beginsAtOf, lengthOf}
+use Rattle.flash.specs.Effect.{Runs, stepAtOf, stepLocationOf, blockedOf, oldQuadOf, effect, effectAtOf, effectOf}
+use Rattle.flash.proofs.EffectLaws.{begins-inside, none-above, step-room, Room}
 
 module _ (g : Geometry) (ok : InRange g) (pwp : ℕ) where
   -- the program page of a place is not protected

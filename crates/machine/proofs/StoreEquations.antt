@@ -1,29 +1,27 @@
 -- What each store of an update does to a device at rest, as one equation each, and what the launch does.
 -- Assumes nothing.
 use mathlib.Core.Path.{_≡_, refl, sym, ap, _∙_}
-use mathlib.Core.Bool.{Bool, true, false, not, _&&_, _||_, or-true, or-false, and-false}
-use mathlib.Core.List.{List, [], _∷_}
-use Prim.Native.Nat.{ℕ, zero, suc, _+_, _^_, _≤_, _<_}
+use mathlib.Core.Bool.{Bool, true, false, or-true}
+use mathlib.Core.List.{List}
+use Prim.Native.Nat.{ℕ, zero, suc, _+_, _≤_, _<_}
 use native.Mathlib.Omega.{arith}
-use lib.Dec.{eqb, ltb, lit<}
 use lib.ListN.{set}
-use lib.Bits.{bitAnd, bitOr}
+use lib.Bits.{bitOr}
 use borrow.Author.Tests.{le-ltb, ne-eqb}
 use Rattle.words.specs.Word.{pick, bit, hasOf, mergeOf, clearOf}
 use Rattle.words.proofs.BitLaws.{bit-or, clear-bit, has-bit, bit-above}
 use Rattle.words.proofs.MaskLaws.{Within, merge-set, merge-clear, merge-none}
 use Rattle.geometry.specs.declared.banks.Geometry.{Geometry}
-use Rattle.geometry.specs.Banks.{inRangeOf}
+use Rattle.geometry.specs.Decline.{acceptedOf}
 use Rattle.device.specs.declared.record.Device.{Device}
 use Rattle.access.specs.declared.launch.Launched.{Launched}
 use Rattle.access.specs.declared.store.Stored.{Stored}
 use Rattle.device.specs.Registers.{WR, WREN, WRERR, LVDERR, NVMOP, LBWPULOCK, UBWPULOCK}
-use Rattle.device.specs.Record.{registerOf, withCon, running, isOpen, opOf}
+use Rattle.device.specs.Record.{registerOf, withCon, isOpen, opOf}
 use Rattle.device.specs.Operation.{beginsOf}
-use Rattle.device.specs.Possible.{possibleOf}
 use Rattle.access.specs.Fields.{wantedOf, keyNextOf, conTakesOf, bwpTakesOf, lowerTakesOf}
 use Rattle.access.specs.Launch.{launched, launchOf}
-use Rattle.access.specs.Store.{hasFormOf, storeDeclineOf, launchesOf, takenOf, conStoreOf, appliedOf, accepted, storeWanted, storeAcceptedOf, storeOf}
+use Rattle.access.specs.Store.{hasFormOf, storeDeclineOf, launchesOf, conStoreOf, appliedOf, accepted, storeAcceptedOf, storeOf}
 use Rattle.access.specs.StartUp.{storesOf, keyStores}
 use Rattle.access.proofs.FieldLaws.{con-takes-wren, con-takes-enabled, con-takes-shut}
 use Rattle.access.proofs.AcceptedLaws.{AtRest}
@@ -95,9 +93,13 @@ module _ (g : Geometry) (d : Device) where
 
 module _ (g : Geometry) (d : Device) (rest : AtRest g d) where
   -- a store at rest is carried out
+  pub store-accepted : (r form : ℕ) → hasFormOf r form ≡ true → acceptedOf (storeDeclineOf g d r form) ≡ true
+  unfolding storeDeclineOf
+  store-accepted r form ok = rw (rest .listed, rest .possible, ok, rest .idle)
+
   pub store-runs : (r form value : ℕ) → hasFormOf r form ≡ true → storeOf g d r form value ≡ storeAcceptedOf g d r form value
-  unfolding storeOf storeDeclineOf
-  store-runs r form value ok = rw (rest .listed, rest .possible, ok, rest .idle)
+  unfolding storeOf
+  store-runs r form value ok = rw (store-accepted r form ok)
 
   -- NVMADDR, NVMDATA0 to 3
   pub address-store : (a : ℕ) → storeOf g d 2 0 a ≡ accepted (withAddress d a) false
@@ -137,7 +139,7 @@ module _ (g : Geometry) (d : Device) (rest : AtRest g d) where
   unfolding storeAcceptedOf registerOf
   con-store form value ok = store-runs 0 form value ok
 
-  wr-off : bit 15 (d .nvmcon .0) ≡ false
+  pub wr-off : bit 15 (d .nvmcon .0) ≡ false
   wr-off = sym (has-bit 15 (d .nvmcon .0)) ∙ rest .idle
 
   no-launch : (w : ℕ) → bit 15 w ≡ false → conStoreOf g d w ≡ launched (mergeOf (conTakesOf d) w (d .nvmcon .0)) false

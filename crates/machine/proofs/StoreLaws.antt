@@ -1,33 +1,32 @@
 -- A store that is not declined leaves a possible device; so does a register read.
 -- Assumes nothing.
-use mathlib.Core.Path.{_≡_, refl, sym, ap, _∙_}
-use mathlib.Core.Bool.{Bool, true, false, not, _&&_, _||_, or-true, or-false}
+use mathlib.Core.Path.{_≡_, refl, sym, _∙_}
+use mathlib.Core.Bool.{Bool, true, false, _||_, or-true, or-false}
 use mathlib.Core.List.{List, [], _∷_}
 use Prim.Native.Nat.{ℕ, zero, suc, _+_, _%_, _^_, _≤_, _<_}
 use native.Mathlib.Nat.{lt-of-le-of-lt}
 use native.Mathlib.Omega.{arith}
 use lib.Dec.{eqb, ltb, lit<}
 use lib.ListN.{set}
-use lib.Bits.{bitAnd, bitOr, bitXor, xor-lt, or-lt, and-lt, or-mod, or-zero-r}
+use lib.Bits.{bitOr, xor-lt, or-lt, and-lt, or-mod, or-zero-r}
 use borrow.Author.Tests.{lt-ltb, eq-eqb}
 use Rattle.words.specs.Word.{pick, bit, hasOf, mergeOf, clearOf}
 use Rattle.words.specs.Quad.{wordAt}
 use Rattle.words.proofs.PickLaws.{pick-both, and-both}
 use Rattle.words.proofs.BitLaws.{bit-or, clear-bit, has-bit}
-use Rattle.words.proofs.MaskLaws.{Within, within-bit, merge-within, or-within, clear-within, merge-keeps, within-trans, outside-bit, has-none, within-high}
+use Rattle.words.proofs.MaskLaws.{Within, merge-within, or-within, clear-within, merge-keeps, within-trans, outside-bit, has-none, within-high}
 use Rattle.geometry.specs.declared.banks.Geometry.{Geometry}
-use Rattle.geometry.specs.Banks.{InRange}
 use Rattle.geometry.specs.Decline.{acceptedOf}
 use Rattle.device.specs.declared.record.Device.{Device}
 use Rattle.access.specs.declared.launch.Launched.{Launched}
 use Rattle.access.specs.declared.store.Stored.{Stored}
-use Rattle.device.specs.Registers.{WR, WREN, WRERR, LVDERR, ALWAYS}
+use Rattle.device.specs.Registers.{WR, WRERR, LVDERR, ALWAYS}
 use Rattle.device.specs.Record.{registerOf, withCon, running, opOf}
 use Rattle.device.specs.Operation.{beginsOf, lengthOf}
 use Rattle.device.specs.Possible.{runningOf, possibleOf}
-use Rattle.access.specs.Fields.{wantedOf, keyNextOf, conTakesOf, pwpTakesOf, bwpTakesOf, con2TakesOf}
+use Rattle.access.specs.Fields.{wantedOf, conTakesOf, bwpTakesOf}
 use Rattle.access.specs.Launch.{launched, launchOf}
-use Rattle.access.specs.Store.{hasFormOf, storeDeclineOf, launchesOf, takenOf, conStoreOf, dataAfter, appliedOf, storeAcceptedOf, storeOf, readDeclineOf, registerReadOf}
+use Rattle.access.specs.Store.{storeDeclineOf, launchesOf, conStoreOf, dataAfter, appliedOf, storeAcceptedOf, storeOf, readDeclineOf, registerReadOf}
 use Rattle.device.proofs.OperationLaws.{length-pos}
 use Rattle.access.proofs.FieldLaws.{con-takes-within, pwp-takes-within, bwp-takes-within, con2-takes-within, key-next-high}
 use Rattle.device.proofs.PossibleLaws.{Implemented, Possible, possible, possible-test, idle-step, same-rows}
@@ -154,22 +153,23 @@ module _ (g : Geometry) (d : Device) (rest : AtRest g d) where
         clean true h = same
         clean false h = pick-both P (ltb (opOf e) 2 || ltb 7 (opOf e)) same (begin (beginsOf g e) refl h)
 
+  -- no store takes WR
+  pub taken-idle : (w : ℕ) → bit 15 (mergeOf (conTakesOf d) w (d .nvmcon .0)) ≡ false
+  taken-idle w =
+      merge-keeps 15 (conTakesOf d) w (d .nvmcon .0) (outside-bit 0x40CF (conTakesOf d) 15 (con-takes-within d) refl)
+      ∙ sym (has-bit 15 (d .nvmcon .0))
+      ∙ rest .idle
+
   con-can : (w : ℕ) → Can (conStoreOf g d w .nvmcon)
   unfolding conStoreOf e
   con-can w =
-      pick-both (λ (l : Launched). Can (l .nvmcon)) (launchesOf d w) (launch-can c inside off) (quiet c inside off)
+      pick-both (λ (l : Launched). Can (l .nvmcon)) (launchesOf d w) (launch-can c inside (taken-idle w)) (quiet c inside (taken-idle w))
     where
       c : ℕ
       c = mergeOf (conTakesOf d) w (d .nvmcon .0)
 
       inside : Within 0xF0CF c
       inside = merge-within 0xF0CF (conTakesOf d) w (d .nvmcon .0) (within-trans 0xF0CF 0x40CF _ (record { inside = refl }) (con-takes-within d)) (was .rows .con)
-
-      off : bit 15 c ≡ false
-      off =
-          merge-keeps 15 (conTakesOf d) w (d .nvmcon .0) (outside-bit 0x40CF (conTakesOf d) 15 (con-takes-within d) refl)
-          ∙ sym (has-bit 15 (d .nvmcon .0))
-          ∙ rest .idle
 
   pub con-possible : (w : ℕ) → possibleOf g (withCon d (conStoreOf g d w .nvmcon) 0 (d .step)) ≡ true
   unfolding Can

@@ -2,26 +2,28 @@
 -- every list of operations. Assumes nothing.
 use Prim.Native.Nat.{ℕ, _+_, _*_, _^_, _≤_, _<_}
 use mathlib.Core.Path.{_≡_}
-use mathlib.Core.Bool.{Bool, true, false}
+use mathlib.Core.Bool.{Bool, true, false, not}
 use mathlib.Core.List.{List, [], _∷_}
 use mathlib.Core.Logic.{_⊎_}
-use lib.ListN.{length}
+use lib.ListN.{length, take}
+use Rattle.words.specs.Word.{pick}
 use Rattle.words.specs.Quad.{wordAt}
 use Rattle.geometry.specs.declared.banks.Geometry.{Geometry}
 use Rattle.geometry.specs.declared.decline.Decline.{Decline}
-use Rattle.geometry.specs.Banks.{inRangeOf, bankWordsOf}
+use Rattle.geometry.specs.Banks.{bankWordsOf}
 use Rattle.geometry.specs.Decline.{acceptedOf}
-use Rattle.geometry.specs.Windows.{pageOf, quadIndexOf}
+use Rattle.geometry.specs.Windows.{quadIndexOf}
 use Rattle.device.specs.declared.record.Device.{Device}
 use Rattle.device.specs.Registers.{withinOf}
-use Rattle.device.specs.Record.{registerOf, powerOn, running, bfswap}
-use Rattle.device.specs.Protection.{protectedOf}
+use Rattle.device.specs.Record.{registerOf, powerOn, bfswap}
 use Rattle.device.specs.Possible.{possibleOf}
 use Rattle.access.specs.Store.{storeOf, registerReadOf}
-use Rattle.flash.specs.Effect.{stepLocationOf, effectOf}
+use Rattle.access.specs.StartUp.{Access, startUpStores, startUpOf}
+use Rattle.flash.specs.Effect.{stepLocationOf}
 use Rattle.flash.specs.Step.{After, stepOf}
 use Rattle.controller.specs.Reset.{comparedOf, resetOf}
 use Rattle.controller.specs.Read.{secondAtOf, flashReadOf}
+use Rattle.machine.specs.Protection.{protectedWordOf}
 
 -- a store of a form and a value to a register; a register read; a flash read; a step and a reset with their SRAM, a reset also with its
 -- kind and its mask
@@ -39,6 +41,10 @@ pub record State : Type 0 where
 
 abbrev pub state : Device → List ℕ → List ℕ → State
 state d one two = record { device = d; one = one; two = two }
+
+-- bank 1, or bank 2
+abbrev pub bankOf : State → Bool → List ℕ
+bankOf s second = pick second (s .two) (s .one)
 
 abbrev pub left : After → State
 left a = state (a .device) (a .one) (a .two)
@@ -64,6 +70,16 @@ abbrev pub runOf : Geometry → State → List Operation → State
 runOf g s [] = s
 runOf g s (o ∷ rest) = runOf g (transitionOf g s o) rest
 
+-- each operation of a list is carried out, none declined, each in the state that those before it left
+abbrev pub AllAccepted : Geometry → State → List Operation → Type 0
+AllAccepted g s [] = Unit {0}
+AllAccepted g s (o ∷ rest) = (acceptedOf (answerOf g s o) ≡ true) × AllAccepted g (transitionOf g s o) rest
+
+-- stores in a row, as "the three key stores", as operations
+abbrev pub storeOperations : List Access → List Operation
+storeOperations [] = []
+storeOperations (a ∷ rest) = store (a .register) (a .form) (a .value) ∷ storeOperations rest
+
 -- a store brings a word of 32 bits, as every caller's does
 abbrev pub BringsWord : Operation → Type 0
 BringsWord (store r form value) = value < 2 ^ 32
@@ -86,28 +102,49 @@ pub record Sound (g : Geometry) (s : State) : Type 0 where
 abbrev pub Outside : ℕ → ℕ → Type 0
 Outside q v = (v < 4 * q) ⊎ (4 * q + 4 ≤ v)
 
--- an operation changes no word of either bank but those of the quad of the next step
+-- "A step does one quad": the bank in which the next step stands, bank 2 or not, and the quad of that bank
+abbrev pub stepSecondOf : Geometry → State → Bool
+stepSecondOf g s = secondAtOf (s .device) (stepLocationOf g (s .device))
+
+abbrev pub stepQuadOf : Geometry → State → ℕ
+stepQuadOf g s = quadIndexOf g (stepLocationOf g (s .device))
+
+-- from s to t no word of either bank changes but those of the quad of the next step
 pub record OneQuad (g : Geometry) (s t : State) : Type 0 where
-  pub one-word : (v : ℕ) → Outside (quadIndexOf g (stepLocationOf g (s .device))) v → wordAt (t .one) v ≡ wordAt (s .one) v
-  pub two-word : (v : ℕ) → Outside (quadIndexOf g (stepLocationOf g (s .device))) v → wordAt (t .two) v ≡ wordAt (s .two) v
+  -- the bank in which the step does not stand is as before, every word and its length
+  pub other-bank : bankOf t (not (stepSecondOf g s)) ≡ bankOf s (not (stepSecondOf g s))
+  -- the bank in which it stands keeps every word outside the quad
+  pub outside : (v : ℕ) → Outside (stepQuadOf g s) v → wordAt (bankOf t (stepSecondOf g s)) v ≡ wordAt (bankOf s (stepSecondOf g s)) v
 
 -- what holds of the controller
 pub record Controller : Type 1 where
+  -- ---- every operation and every list of them
   -- every list of operations, declined ones too, from a possible device leaves one, and banks of unchanged length
   pub stays-sound : (g : Geometry) (s : State) → Sound g s → (l : List Operation) → BringWords l → Sound g (runOf g s l)
   -- so from power-on
   pub power-on : (g : Geometry) (one two : List ℕ) → length one ≡ bankWordsOf g → length two ≡ bankWordsOf g → Sound g (state powerOn one two)
   -- a declined operation changes nothing
   pub declined-same : (g : Geometry) (s : State) (o : Operation) → acceptedOf (answerOf g s o) ≡ false → transitionOf g s o ≡ s
-  -- after a reset BFSWAP is the comparison of what the banks then hold
-  pub compared : (g : Geometry) (s : State) (sram : List ℕ) (kind : ℕ) (mask : List ℕ) → acceptedOf (answerOf g s (reset sram kind mask)) ≡ true
-      → let t = transitionOf g s (reset sram kind mask) in bfswap (t .device) ≡ comparedOf g (t .one) (t .two)
   -- registers always read within their masks
   pub masked : (g : Geometry) (s : State) → Sound g s → (r : ℕ) → r < 11 → withinOf r (registerOf (s .device) r) ≡ true
+  -- ---- what is written
   -- a step and a tear change at most the one quad of the step
   pub one-quad : (g : Geometry) (s : State) (sram : List ℕ) → OneQuad g s (transitionOf g s (step sram))
   pub one-quad-torn : (g : Geometry) (s : State) (sram : List ℕ) (kind : ℕ) (mask : List ℕ) → OneQuad g s (transitionOf g s (reset sram kind mask))
-  -- and write it only where its page is not protected then
-  pub unprotected : (g : Geometry) → inRangeOf g ≡ true → (s : State) → Sound g s → running (s .device) ≡ true → (sram : List ℕ)
-      → effectOf g (s .device) (s .one) (s .two) sram .writes ≡ true
-      → let l = stepLocationOf g (s .device) in protectedOf g (s .device) (l .program) (l .upper) (pageOf g l) ≡ false
+  -- no operation changes a word of either bank that lies in a page protected at that time
+  pub protected-kept : (g : Geometry) (s : State) (o : Operation) (second : Bool) (v : ℕ) → protectedWordOf g (s .device) second v ≡ true
+      → wordAt (bankOf (transitionOf g s o) second) v ≡ wordAt (bankOf s second) v
+  -- ---- reset and start-up
+  -- after a reset BFSWAP is the comparison of what the banks then hold
+  pub compared : (g : Geometry) (s : State) (sram : List ℕ) (kind : ℕ) (mask : List ℕ) → acceptedOf (answerOf g s (reset sram kind mask)) ≡ true
+      → let t = transitionOf g s (reset sram kind mask) in bfswap (t .device) ≡ comparedOf g (t .one) (t .two)
+  -- a start-up, a declined one too, is the run of its stores as operations
+  pub start-up-runs : (g : Geometry) (s : State)
+      → state (startUpOf g (s .device) .device) (s .one) (s .two) ≡ runOf g s (storeOperations (startUpStores (s .device)))
+  -- and of an accepted one none of them is declined
+  pub start-up-accepted : (g : Geometry) (s : State) → acceptedOf (startUpOf g (s .device) .decline) ≡ true
+      → AllAccepted g s (storeOperations (startUpStores (s .device)))
+  -- it leaves a possible device
+  pub start-up-sound : (g : Geometry) (s : State) → Sound g s → Sound g (state (startUpOf g (s .device) .device) (s .one) (s .two))
+  -- and so does every prefix of its stores: a start-up that was cut
+  pub start-up-cut : (g : Geometry) (s : State) → Sound g s → (n : ℕ) → Sound g (runOf g s (take n (storeOperations (startUpStores (s .device)))))

@@ -10,15 +10,12 @@ use lib.ListN.{getD}
 use Rattle.words.proofs.PickLaws.{pick-both}
 use Rattle.geometry.specs.declared.banks.Geometry.{Geometry}
 use Rattle.machine.specs.Machine.{State, left, Operation, transitionOf, runOf, BringsWord, BringWords, Sound}
+use Rattle.machine.proofs.MachineLaws.{run-append}
 use Rattle.machine.proofs.Machine.{controller}
 use Rattle.script.specs.declared.records.Record.{Record}
 use Rattle.script.specs.Records.{valueOf, recordOf}
 use Rattle.script.specs.Play.{recordAfterOf, stateOf, operationOf, operationsOf}
 use Rattle.script.specs.Program.{smallest, firstBank, erasedBank, startOf}
-
-run-append : (g : Geometry) (s : State) (first other : List Operation) → runOf g s (first ++ other) ≡ runOf g (runOf g s first) other
-run-append g s [] other = refl
-run-append g s (o ∷ first) other = run-append g (transitionOf g s o) first other
 
 record-runs : (g : Geometry) (sram : List ℕ) (s : State) (r : Record) → left (recordAfterOf g sram s r) ≡ transitionOf g s (operationOf sram r)
 unfolding recordAfterOf
