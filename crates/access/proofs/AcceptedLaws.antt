@@ -4,6 +4,7 @@ use mathlib.Core.Path.{_≡_, refl}
 use mathlib.Core.Bool.{true, false}
 use mathlib.Core.List.{[]}
 use Prim.Native.Nat.{ℕ}
+use native.Mathlib.Omega.{arith}
 use Rattle.geometry.specs.declared.banks.Geometry.{Geometry}
 use Rattle.geometry.specs.declared.decline.Decline.{Decline}
 use Rattle.geometry.specs.Banks.{inRangeOf, InRange}
@@ -13,7 +14,7 @@ use Rattle.device.specs.declared.record.Device.{Device}
 use Rattle.device.specs.Record.{running}
 use Rattle.device.specs.Possible.{possibleOf}
 use Rattle.device.specs.Opening.{openingOf}
-use Rattle.device.proofs.OpeningLaws.{ready}
+use Rattle.device.proofs.OpeningLaws.{ready, opens}
 use Rattle.access.specs.Store.{hasFormOf, storeDeclineOf, readDeclineOf}
 use Rattle.access.specs.StartUp.{startUpDeclineOf}
 
@@ -28,6 +29,10 @@ at-rest : (g : Geometry) (d : Device) → acceptedOf (openingOf g d [] 0) ≡ tr
 at-rest g d h idle =
     let r = ready g d [] 0 h in
     record { listed = r .lent .listed; range = r .lent .range; possible = r .possible; idle = idle }
+
+-- the other way
+pub rest-opens : (g : Geometry) (d : Device) → AtRest g d → openingOf g d [] 0 ≡ Decline.Accepted
+rest-opens g d rest = opens g d [] 0 (rest .listed) tt (omega arith) (rest .possible)
 
 pub store-at-rest : (g : Geometry) (d : Device) (r form : ℕ) → acceptedOf (storeDeclineOf g d r form) ≡ true
     → AtRest g d × (hasFormOf r form ≡ true)

@@ -15,7 +15,7 @@ use Rattle.device.specs.declared.record.Device.{Device}
 use Rattle.device.specs.Record.{bfswap}
 use Rattle.access.specs.Store.{hasFormOf, storeDeclineOf, storeOf}
 use Rattle.access.specs.StartUp.{Access, access, storesOf, keyStores, startUpStores, startUpDeclineOf, startUpOf}
-use Rattle.access.proofs.AcceptedLaws.{store-at-rest, start-up-at-rest}
+use Rattle.access.proofs.AcceptedLaws.{store-at-rest, start-up-at-rest, rest-opens}
 use Rattle.machine.specs.Machine.{Operation, State, state, runOf, AllAccepted, storeOperations, BringWords, Sound}
 use Rattle.machine.proofs.MachineLaws.{run-sound}
 use Rattle.machine.proofs.RestLaws.{NoLaunch, NoLaunches, stores-accepted, stores-run, stores-bring}
@@ -51,7 +51,7 @@ store-declined g d r form off = go (acceptedOf (storeDeclineOf g d r form)) refl
     go : (t : Bool) → acceptedOf (storeDeclineOf g d r form) ≡ t → t ≡ false
     go true on =
         let rest = store-at-rest g d r form on .0 in
-        true-not-false (sym (rw (rest .listed, rest .possible, rest .idle)) ∙ off)
+        true-not-false (sym (rw (rest-opens g d rest, rest .idle)) ∙ off)
     go false e = refl
 
 stores-declined : (g : Geometry) (d : Device) → acceptedOf (startUpDeclineOf g d) ≡ false → (l : List Access) → storesOf g d l ≡ d

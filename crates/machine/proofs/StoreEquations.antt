@@ -24,7 +24,7 @@ use Rattle.access.specs.Launch.{launched, launchOf}
 use Rattle.access.specs.Store.{hasFormOf, storeDeclineOf, launchesOf, conStoreOf, appliedOf, accepted, storeAcceptedOf, storeOf}
 use Rattle.access.specs.StartUp.{storesOf, keyStores}
 use Rattle.access.proofs.FieldLaws.{con-takes-wren, con-takes-enabled, con-takes-shut}
-use Rattle.access.proofs.AcceptedLaws.{AtRest}
+use Rattle.access.proofs.AcceptedLaws.{AtRest, rest-opens}
 use Rattle.device.proofs.PossibleLaws.{possible, possible-test, same-rows}
 
 -- the device with another NVMADDR, NVMDATA or NVMBWP, and the key shut
@@ -95,7 +95,7 @@ module _ (g : Geometry) (d : Device) (rest : AtRest g d) where
   -- a store at rest is carried out
   pub store-accepted : (r form : ℕ) → hasFormOf r form ≡ true → acceptedOf (storeDeclineOf g d r form) ≡ true
   unfolding storeDeclineOf
-  store-accepted r form ok = rw (rest .listed, rest .possible, ok, rest .idle)
+  store-accepted r form ok = rw (rest-opens g d rest, ok, rest .idle)
 
   pub store-runs : (r form value : ℕ) → hasFormOf r form ≡ true → storeOf g d r form value ≡ storeAcceptedOf g d r form value
   unfolding storeOf

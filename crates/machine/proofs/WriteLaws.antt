@@ -137,7 +137,7 @@ writes-one-quad g s (reset sram kind mask) =
       other = torn-other (s .two) (running d) (e .writes) (e .second) (e .quad) torn ∙ rw (effect-second g d (s .one) (s .two) sram, effect-quad g d (s .one) (s .two) sram);
       allowed = λ w.
           let (on, writes) = and-both (running d) (e .writes) w in
-          let run = runs g d (ready .range) (ready .possible) on in
+          let run = runs g d (ready .lent .range) (ready .possible) on in
           (run, unprotected g d (s .one) (s .two) sram run writes);
     })
     (λ off. no-write g s _ refl refl)
