@@ -99,9 +99,7 @@ impl Case {
 
     /// The case of a line; what follows a bar is ignored.
     pub fn parse(line: &str) -> Option<Case> {
-        let inputs = line.split('|').next()?;
-        let inputs = inputs.strip_suffix(' ').unwrap_or(inputs);
-        let mut parts = inputs.split(' ');
+        let mut parts = left_of_bar(line).split(' ');
         let name = parts.next()?;
         let shape = SHAPES.iter().find(|shape| shape.name == name)?;
         let numbers: Option<Vec<u32>> = parts.map(parse_number).collect();
@@ -263,6 +261,18 @@ impl Case {
 pub fn answer_line(line: &str) -> String {
     let answer = Case::parse(line).and_then(|case| case.answer());
     answer.unwrap_or_else(|| String::from("?"))
+}
+
+/// What stands left of a line's bar, without the blank before it.
+pub fn left_of_bar(line: &str) -> &str {
+    let left = line.split('|').next().unwrap_or("");
+    left.strip_suffix(' ').unwrap_or(left)
+}
+
+/// Whether a line is of the update's own calls, which the conformance program does not know yet.
+pub fn of_update(line: &str) -> bool {
+    let name = line.split(' ').next().unwrap_or("");
+    name == Call::UpdateStart.shape().name || name == Call::Turn.shape().name
 }
 
 fn parse_number(part: &str) -> Option<u32> {

@@ -1,10 +1,11 @@
 //! The commands; each gives whether all was as expected.
 
+use std::collections::HashSet;
 use std::io::{self, BufRead, BufWriter, Read, Write};
 use std::path::{Path, PathBuf};
 use std::time::Instant;
 
-use model::cases::answer_line;
+use model::cases::{answer_line, left_of_bar, of_update};
 use model::device::{Device, NVMCON};
 use model::flash::reset;
 use model::generate::{self, Cases, DEFAULT_WORDS};
@@ -23,6 +24,9 @@ pub fn run(words: &[&str]) -> Option<io::Result<bool>> {
         ["scripts", folder] => Some(scripts(Path::new(folder))),
         ["bundle", folder, count] => Some(bundle(Path::new(folder), count.parse().ok()?)),
         ["play_bundle"] => Some(play_bundle()),
+        ["directed"] => Some(directed("")),
+        ["directed", subject] => Some(directed(subject)),
+        ["complete", file] => Some(complete(file)),
         ["cases", seed, count] => cases(seed, count, DEFAULT_WORDS),
         ["cases", seed, count, most] => cases(seed, count, most.parse().ok()?),
         ["script", seed] => script(seed, false),
@@ -98,11 +102,14 @@ fn scripts(folder: &Path) -> io::Result<bool> {
     Ok(differences == 0)
 }
 
-/// The scripts of a folder, then some made from the seeds 1, 2, ..
+/// The scripts of a folder, those at the edges of decline 14, then some made from the seeds 1, 2, ..
 fn bundle(folder: &Path, count: u64) -> io::Result<bool> {
     let mut output = BufWriter::new(io::stdout().lock());
     for path in script_paths(folder)? {
         output.write_all(&bundled(&std::fs::read(path)?))?;
+    }
+    for script in generate::record_edges() {
+        output.write_all(&bundled(&script))?;
     }
     for seed in 1..=count {
         output.write_all(&bundled(&generate::script(seed, false)))?;
@@ -116,6 +123,46 @@ fn play_bundle() -> io::Result<bool> {
     io::stdin().lock().read_to_end(&mut bytes)?;
     let text: String = unbundled(&bytes).iter().map(|s| play(s) + "-\n").collect();
     io::stdout().lock().write_all(text.as_bytes())?;
+    Ok(true)
+}
+
+/// The directed cases of a subject, or all where none is named.
+fn directed(subject: &str) -> io::Result<bool> {
+    let mut output = BufWriter::new(io::stdout().lock());
+    let mut count = 0;
+    for (name, case) in generate::directed::cases() {
+        if subject.is_empty() || subject == name {
+            count += 1;
+            if let Some(line) = generate::line(&case) {
+                writeln!(output, "{line}")?;
+            }
+        }
+    }
+    output.flush()?;
+    Ok(count > 0)
+}
+
+/// The lines of the input, then the cases of a file and the directed ones that are not among them.
+fn complete(file: &str) -> io::Result<bool> {
+    let mut bytes = Vec::new();
+    io::stdin().lock().read_to_end(&mut bytes)?;
+    // The last line stays without a line feed; the conformance program takes it so.
+    if bytes.last() == Some(&b'\n') {
+        bytes.pop();
+    }
+    let text = String::from_utf8_lossy(&bytes).into_owned();
+    let mut seen: HashSet<&str> = text.lines().map(left_of_bar).collect();
+    let stored = std::fs::read_to_string(file)?;
+    let directed = generate::directed::cases();
+    let directed: Vec<String> = directed.iter().map(|(_, case)| case.inputs()).collect();
+    let stored = stored.lines().filter(|line| !of_update(line));
+    for line in stored.chain(directed.iter().map(String::as_str)) {
+        if seen.insert(left_of_bar(line)) {
+            bytes.push(b'\n');
+            bytes.extend_from_slice(line.as_bytes());
+        }
+    }
+    io::stdout().lock().write_all(&bytes)?;
     Ok(true)
 }
 

@@ -1,13 +1,16 @@
-//! Cases and scripts made from a seed.
+//! Cases and scripts made from a seed, and directed ones.
 
 mod calls;
 mod devices;
+pub mod directed;
 mod memory;
 mod places;
+mod record_edges;
 mod scripts;
 
 pub use memory::{old_bank_one, random_image};
 pub use places::{accepted_start, Start};
+pub use record_edges::{record_edges, refused_scripts};
 pub use scripts::script;
 
 use crate::cases::{Case, SHAPES};

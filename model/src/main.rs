@@ -9,6 +9,10 @@ const USAGE: &str = "usage:
   model check FILE...
   model play
   model scripts DIR
+  model bundle DIR COUNT
+  model play_bundle
+  model directed [SUBJECT]
+  model complete FILE
   model cases SEED COUNT [MAX_WORDS]
   model script SEED [damaged]
   model update Q B P";

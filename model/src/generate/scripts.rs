@@ -28,7 +28,7 @@ pub fn script(seed: u64, damaged: bool) -> Vec<u8> {
     bytes
 }
 
-fn store(records: &mut Vec<Record>, register: usize, form: u32, value: u32) {
+pub(super) fn store(records: &mut Vec<Record>, register: usize, form: u32, value: u32) {
     let (register, form) = (register as u8, form as u8);
     records.push(Record::Store {
         register,
@@ -37,7 +37,7 @@ fn store(records: &mut Vec<Record>, register: usize, form: u32, value: u32) {
     });
 }
 
-fn keys(records: &mut Vec<Record>) {
+pub(super) fn keys(records: &mut Vec<Record>) {
     for key in KEYS {
         store(records, NVMKEY, PLAIN, key);
     }

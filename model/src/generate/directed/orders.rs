@@ -1,0 +1,164 @@
+//! Calls to which no, one or several declines apply: the lowest number is given.
+
+use crate::cases::Case;
+use crate::device::*;
+use crate::geometry::{ALL_ONES, LOWER_BOOT, LOWER_PROGRAM, SRAM_LIMIT, UPPER_BOOT};
+use crate::list::List;
+use crate::store::{PLAIN, SET};
+
+use super::parts::*;
+
+type Change = fn(&mut Case);
+
+/// A decline's number, and changes each of which makes it apply.
+type Cause = (u32, &'static [Change]);
+
+pub fn cases() -> Vec<Case> {
+    ordered().into_iter().map(|(_, case)| case).collect()
+}
+
+/// Each case with the lowest number that applies, 0 where none does.
+pub fn ordered() -> Vec<(u32, Case)> {
+    let (banks, running) = (blank(&SMALL), running(5, 0, 0));
+    let stored = store(&SMALL, idle(), NVMADDR, PLAIN, 1);
+    let read = flash_read(&SMALL, running, &banks, UPPER_BOOT);
+    let torn = reset(&SMALL, running, &banks, &[], 0, [0; 4]);
+    [
+        combined(stored, &[GEOMETRY, DEVICE, (4, &FORMS), RUNNING]),
+        combined(
+            register_read(&SMALL, idle(), 2),
+            &[GEOMETRY, DEVICE, REGISTER],
+        ),
+        combined(
+            read,
+            &[GEOMETRY, LENGTHS, DEVICE, (8, &ADDRESSES), (9, &[own_bank])],
+        ),
+        combined(
+            lower_bank(&SMALL, idle(), &banks),
+            &[GEOMETRY, LENGTHS, DEVICE],
+        ),
+        combined(
+            page(&SMALL, &banks[0], 1),
+            &[GEOMETRY, (2, &[longer]), (8, &PAGES)],
+        ),
+        combined(
+            step(&SMALL, running, &banks, &[]),
+            &[GEOMETRY, MEMORY, DEVICE, IDLE],
+        ),
+        combined(torn, &[GEOMETRY, MEMORY, DEVICE, (7, &KINDS)]),
+        combined(start_up(&SMALL, idle()), &[GEOMETRY, DEVICE, RUNNING]),
+    ]
+    .concat()
+}
+
+/// Every choice of declines, with one change for each of them.
+fn combined(base: Case, causes: &[Cause]) -> Vec<(u32, Case)> {
+    let mut cases = vec![(0, base)];
+    for (number, changes) in causes {
+        for (lowest, case) in cases.clone() {
+            for change in *changes {
+                let mut case = case.clone();
+                change(&mut case);
+                let lowest = if lowest == 0 { *number } else { lowest };
+                cases.push((lowest, case));
+            }
+        }
+    }
+    cases
+}
+
+const GEOMETRY: Cause = (1, &[three_quads]);
+const LENGTHS: Cause = (2, &[longer, second_shorter]);
+const MEMORY: Cause = (2, &[longer, second_shorter, long_sram]);
+const DEVICE: Cause = (3, &[key_step_four, step_far]);
+const REGISTER: Cause = (4, &[register_eleven]);
+const RUNNING: Cause = (5, &[runs]);
+const IDLE: Cause = (6, &[idles]);
+
+const FORMS: [Change; 3] = [register_eleven, form_four, key_form];
+const ADDRESSES: [Change; 2] = [outside, unaligned];
+const PAGES: [Change; 2] = [page_past, page_far];
+const KINDS: [Change; 2] = [kind_three, kind_far];
+
+/// The banks get the length that three quads per row would ask for.
+fn three_quads(case: &mut Case) {
+    case.geometry[0] = 3;
+    for list in case.lists.iter_mut().take(2) {
+        list.length *= 3;
+    }
+}
+
+fn longer(case: &mut Case) {
+    case.lists[0].length += 1;
+}
+
+fn second_shorter(case: &mut Case) {
+    case.lists[1].length -= 1;
+}
+
+fn long_sram(case: &mut Case) {
+    case.lists[2] = List::from_words(&vec![0; SRAM_LIMIT + 1]);
+}
+
+fn key_step_four(case: &mut Case) {
+    case.device.key_step = 4;
+}
+
+/// Impossible with WR = 0 and with WR = 1.
+fn step_far(case: &mut Case) {
+    case.device.step_number = ALL_ONES;
+}
+
+fn register_eleven(case: &mut Case) {
+    case.numbers[0] = REGISTERS as u32;
+}
+
+fn form_four(case: &mut Case) {
+    case.numbers[1] = 4;
+}
+
+fn key_form(case: &mut Case) {
+    case.numbers[0] = NVMKEY as u32;
+    case.numbers[1] = SET;
+}
+
+fn runs(case: &mut Case) {
+    case.device.set_con(WR | WRERR | 5);
+}
+
+fn idles(case: &mut Case) {
+    case.device.clear_con(WR);
+}
+
+/// The lower region's bank is the lower alias's.
+fn own_bank(case: &mut Case) {
+    let address = &mut case.numbers[0];
+    *address = match *address {
+        UPPER_BOOT => LOWER_BOOT,
+        other => other - UPPER_BOOT + LOWER_PROGRAM,
+    };
+}
+
+fn outside(case: &mut Case) {
+    case.numbers[0] = UPPER_BOOT + 2 * 128;
+}
+
+fn unaligned(case: &mut Case) {
+    case.numbers[0] += 2;
+}
+
+fn page_past(case: &mut Case) {
+    case.numbers[0] = SMALL.pages();
+}
+
+fn page_far(case: &mut Case) {
+    case.numbers[0] = ALL_ONES;
+}
+
+fn kind_three(case: &mut Case) {
+    case.numbers[0] = 3;
+}
+
+fn kind_far(case: &mut Case) {
+    case.numbers[0] = ALL_ONES;
+}

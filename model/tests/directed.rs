@@ -1,0 +1,151 @@
+//! Directed cases and scripts are what they are meant to be.
+
+use std::collections::{BTreeMap, BTreeSet};
+
+use model::cases::{answer_line, Call, Case};
+use model::device::{WR, WRERR};
+use model::generate::directed::{cases, ordered};
+use model::generate::{line, record_edges, refused_scripts};
+use model::script::play;
+
+/// Where NVMCON stands in an answer that gives a device.
+const CON: usize = 1;
+
+/// Where the number or the event after such a device stands.
+const AFTER_DEVICE: usize = 14;
+
+fn numbers(case: &Case) -> Vec<u32> {
+    let answer = case.answer().expect("a case of a known call");
+    answer
+        .split(' ')
+        .map(|part| part.parse().unwrap())
+        .collect()
+}
+
+/// What became of a case, in a few words.
+fn outcome(case: &Case) -> String {
+    let numbers = numbers(case);
+    let named = matches!(case.call, Call::Compare | Call::Possible | Call::Protected);
+    if named || numbers[0] != 0 {
+        return numbers[0].to_string();
+    }
+    let text = match case.call {
+        Call::Store if numbers[CON] & WR != 0 => "launched",
+        Call::Store if numbers[AFTER_DEVICE] == 1 => "failed",
+        Call::Step if numbers[AFTER_DEVICE + 1] > 0 => "written",
+        Call::Step if numbers[AFTER_DEVICE] == 1 && numbers[CON] & WRERR != 0 => "aborted",
+        Call::Step => "counted",
+        Call::Reset if numbers[AFTER_DEVICE] > 0 => "torn",
+        Call::Reset => "untouched",
+        _ => "accepted",
+    };
+    String::from(text)
+}
+
+/// The outcomes of a subject's cases, by call.
+fn outcomes() -> BTreeMap<(&'static str, &'static str), BTreeSet<String>> {
+    let mut outcomes: BTreeMap<_, BTreeSet<String>> = BTreeMap::new();
+    for (subject, case) in cases() {
+        let call = case.call.shape().name;
+        outcomes
+            .entry((subject, call))
+            .or_default()
+            .insert(outcome(&case));
+    }
+    outcomes
+}
+
+#[test]
+fn both_sides_of_each_subject_occur() {
+    let outcomes = outcomes();
+    for (subject, call, expected) in [
+        ("rows", "step", "written aborted counted 2"),
+        ("rows", "reset", "torn untouched 2"),
+        ("reads", "flash_read", "accepted 8 9"),
+        ("reads", "lower_bank", "accepted"),
+        ("launches", "store", "launched failed accepted"),
+        ("steps", "step", "written aborted counted"),
+        ("swaps", "store", "accepted"),
+        ("keys", "store", "accepted 4"),
+        ("keys", "register_read", "accepted"),
+        ("fields", "store", "launched accepted"),
+        ("resets", "reset", "torn untouched 7"),
+        ("tears", "reset", "torn untouched"),
+        ("start_ups", "startup", "accepted 5"),
+        ("orders", "store", "accepted 1 3 4 5"),
+        ("orders", "register_read", "accepted 1 3 4"),
+        ("orders", "flash_read", "accepted 1 2 3 8 9"),
+        ("orders", "lower_bank", "1 2 3"),
+        ("orders", "page", "accepted 1 2 8"),
+        ("orders", "step", "counted 1 2 3 6"),
+        ("orders", "reset", "untouched 1 2 3 7"),
+        ("orders", "startup", "accepted 1 3 5"),
+        ("impossible", "possible", "0 1"),
+        ("pages", "page", "accepted 2 8"),
+        ("protection", "protected", "0 1"),
+    ] {
+        let expected: BTreeSet<String> = expected.split(' ').map(String::from).collect();
+        assert_eq!(outcomes[&(subject, call)], expected, "{subject} {call}");
+    }
+}
+
+#[test]
+fn every_call_declines_an_impossible_device() {
+    let outcomes = outcomes();
+    for call in [
+        "store",
+        "register_read",
+        "flash_read",
+        "lower_bank",
+        "step",
+        "reset",
+        "startup",
+    ] {
+        let expected = BTreeSet::from([String::from("3")]);
+        assert_eq!(outcomes[&("impossible", call)], expected, "{call}");
+    }
+}
+
+#[test]
+fn the_lowest_decline_is_given() {
+    for (lowest, case) in ordered() {
+        assert_eq!(numbers(&case)[0], lowest, "{}", case.inputs());
+    }
+}
+
+#[test]
+fn directed_cases_come_back() {
+    let mut seen = BTreeSet::new();
+    for (_, case) in cases() {
+        let line = line(&case).unwrap();
+        assert_eq!(Case::parse(&line).as_ref(), Some(&case));
+        assert_eq!(line, format!("{} | {}", case.inputs(), answer_line(&line)));
+        assert!(seen.insert(case.inputs()), "twice: {line}");
+    }
+}
+
+#[test]
+fn scripts_at_the_edges_of_decline_14() {
+    let (all, refused) = (record_edges(), refused_scripts());
+    let mut played = 0;
+    for script in &all {
+        let refused = refused.contains(script);
+        assert_eq!(play(script) == "14\n", refused, "{script:?}");
+        played += usize::from(!refused);
+    }
+    assert!(played > 60 && all.len() - played > 150);
+    let once: BTreeSet<&Vec<u8>> = all.iter().collect();
+    assert_eq!(once.len(), all.len());
+}
+
+/// Each answer that a record can have occurs in the scripts that are played.
+#[test]
+fn records_answered_4_5_and_6() {
+    let mut answers = BTreeSet::new();
+    for script in record_edges() {
+        for line in play(&script).lines() {
+            answers.extend(line.split(' ').nth(1).map(String::from));
+        }
+    }
+    assert_eq!(answers, ["0", "4", "5", "6"].map(String::from).into());
+}
