@@ -1,7 +1,10 @@
 //! What the proved programs are expected to print is what this model gives for their stored inputs.
 
-use model::cases::answer_line;
+use model::cases::{answer_line, left_of_bar, of_update};
+use model::generate::directed::cases;
+use model::generate::record_edges;
 use model::script::{play, unbundled};
+use std::collections::HashSet;
 use std::path::{Path, PathBuf};
 
 fn stored(program: &str, name: &str) -> Vec<u8> {
@@ -30,27 +33,42 @@ fn bundle_of_scripts() {
             assert!(scripts.contains(&&script[..]), "{}", path.display());
         }
     }
+    for script in record_edges() {
+        assert!(scripts.contains(&&script[..]), "{script:?}");
+    }
 }
 
 /// The conformance program does not know the update's calls yet.
 #[test]
 fn conformance_program() {
     let inputs = stored("conformance", "stdin");
-    let mut answers = 0;
     let printed: String = inputs
         .split(|&byte| byte == b'\n')
         .map(|line| {
             let line = String::from_utf8_lossy(line);
-            let known = !line.starts_with("update_start") && !line.starts_with("turn");
-            let answer = if known {
-                answer_line(&line)
+            if of_update(&line) {
+                String::from("?\n")
             } else {
-                String::from("?")
-            };
-            answers += usize::from(answer != "?");
-            answer + "\n"
+                answer_line(&line) + "\n"
+            }
         })
         .collect();
     assert_eq!(printed.as_bytes(), stored("conformance", "stdout"));
-    assert!(answers > 400);
+}
+
+/// Every stored call case that the program knows, and every directed one, is among its inputs.
+#[test]
+fn conformance_inputs() {
+    let inputs = stored("conformance", "stdin");
+    let inputs = String::from_utf8_lossy(&inputs);
+    let there: HashSet<&str> = inputs.lines().map(left_of_bar).collect();
+    let vectors = Path::new(env!("CARGO_MANIFEST_DIR")).join("vectors/calls.txt");
+    let calls = std::fs::read_to_string(vectors).unwrap();
+    for line in calls.lines().filter(|line| !of_update(line)) {
+        assert!(there.contains(left_of_bar(line)), "{line}");
+    }
+    for (subject, case) in cases() {
+        let inputs = case.inputs();
+        assert!(there.contains(&inputs[..]), "{subject}: {inputs}");
+    }
 }
