@@ -1,6 +1,7 @@
 // Plays the service script of standard input after power-on, and prints a line for each record.
 ghost use Prim.Native.Nat.{_≤_};
 ghost use lib.ListN.{length};
+ghost use Rattle.script.specs.Program.{outputRoom};
 use libc::STDERR_FILENO;
 use libc::STDIN_FILENO;
 use libc::STDOUT_FILENO;
@@ -21,14 +22,16 @@ fn is_end(input: &mut [u8], count: usize) -> bool
     libc::read(STDIN_FILENO, &mut input[count..]) == 0
 }
 
-fn play_input(input: &mut [u8], out: &mut [u8]) {
+fn play_input(input: &mut [u8], out: &mut [u8])
+    requires { ⌜ outputRoom ≤ length (now out) ⌝ }
+{
     let count = io::read_full(STDIN_FILENO, input);
     if !is_end(input, count) {
         io::write_all(STDERR_FILENO, b"play: standard input cannot be read\n");
         return;
     }
-    let p = print(&input[..count], out);
-    if !io::write_all(STDOUT_FILENO, &out[..p.bytes]) {
+    let bytes = print(&input[..count], out);
+    if !io::write_all(STDOUT_FILENO, &out[..bytes]) {
         io::write_all(STDERR_FILENO, b"play: standard output cannot be written\n");
     }
 }

@@ -1,7 +1,5 @@
-pub mod BufferLaws
-pub mod DigitLaws
-pub mod LineLaws
+pub mod MachineLaws
+pub mod AnswerLaws
 pub mod PlayLaws
 pub mod ProgramLaws
-pub mod MachineLaws
 pub mod WorkedExample

@@ -1,29 +1,33 @@
--- What the play program prints: it is the play after a power-on, and its buffer has room.
+-- What the play program prints: it is the play after a power-on, which no decline but 14 meets, and its buffer has room.
 -- Assumes nothing.
 use mathlib.Core.Path.{_≡_, refl, sym, _∙_}
 use mathlib.Core.Bool.{Bool, true, false}
-use mathlib.Core.List.{List, []}
+use mathlib.Core.List.{List, [], _∷_}
 use Prim.Native.Nat.{ℕ, _≤_, _<_}
 use native.Mathlib.Decide.{decLe}
 use native.Mathlib.Omega.{arith}
-use borrow.Author.Tests.{le-leb, le-ltb, lt-ltb, leb-true}
-use lib.ListN.{length}
-use lib.Dec.{leb}
+use borrow.Author.Tests.{le-ltb, lt-ltb}
+use lib.ListN.{length, take}
 use Rattle.words.specs.Word.{pick}
 use Rattle.words.proofs.PickLaws.{pick-both}
 use Rattle.words.proofs.BitLaws.{true-not-false}
+use Rattle.lines.specs.Buffer.{putFirst, saturatedOf}
+use Rattle.lines.specs.Digits.{widthOf}
+use Rattle.lines.proofs.BufferLaws.{front-whole}
+use Rattle.lines.proofs.LineLaws.{length-four}
 use Rattle.geometry.specs.declared.decline.Decline.{Decline}
+use Rattle.geometry.specs.Banks.{listedOf, inRangeOf}
 use Rattle.geometry.specs.Decline.{acceptedOf}
+use Rattle.geometry.specs.Sequence.{complementOf, validOf, bfswapOf}
 use Rattle.device.specs.declared.record.Device.{Device}
 use Rattle.device.specs.Record.{powerOn}
-use Rattle.geometry.specs.Sequence.{complementOf, validOf, bfswapOf}
+use Rattle.device.specs.Opening.{openingOf}
+use Rattle.device.proofs.OpeningLaws.{opens}
 use Rattle.controller.specs.Reset.{comparedOf, resetConOf, resetDeviceOf}
+use Rattle.machine.proofs.Machine.{controller}
 use Rattle.script.specs.Records.{recordsOf, isScriptOf}
-use Rattle.script.specs.Digits.{widthOf}
-use Rattle.script.specs.Lines.{linesLengthOf}
-use Rattle.script.specs.Play.{linesOf, Playback, playback, playOf}
-use Rattle.script.specs.Program.{smallest, firstBank, erasedBank, startOf, longest, declineLine, printedOf, Printout, takenOf, fittedOf, printOf}
-use Rattle.script.proofs.LineLaws.{length-four}
+use Rattle.script.specs.Play.{linesOf, playDeclineOf, declineOf, Playback, playback, playedOf, playOf}
+use Rattle.script.specs.Program.{smallest, firstBank, erasedBank, startOf, longest, declineLine, printedOf, outputRoom, Printout, printout, takenOf, writtenOf, printOf}
 use Rattle.script.proofs.PlayLaws.{lines-length}
 
 -- any power-on of the program's banks gives its device
@@ -36,31 +40,46 @@ power-on-there d = refl
 abbrev played : List ℕ → List ℕ → Playback
 played script buffer = playOf smallest [] startOf script buffer
 
-through : {A B : Type 0} (f : A → B) (t : Bool) (x y : A) → f (pick t x y) ≡ pick t (f x) (f y)
-through f true x y = refl
-through f false x y = refl
+-- none of declines 1, 2 and 3 applies
+start-opens : openingOf smallest powerOn (length firstBank ∷ length erasedBank ∷ []) 0 ≡ Decline.Accepted
+unfolding inRangeOf listedOf
+start-opens =
+    opens smallest powerOn (length firstBank ∷ length erasedBank ∷ []) 0 refl (refl, (refl, tt)) (omega arith)
+    (controller .power-on smallest firstBank erasedBank refl refl .possible)
 
--- a script's lines stand in the buffer where it has room
-script-fitted : (script buffer : List ℕ) → isScriptOf script ≡ true
-    → takenOf (played script buffer) ≡ fittedOf (linesOf smallest [] startOf script (recordsOf script)) buffer
-unfolding playOf
-script-fitted script buffer e =
-    rw (e, lines-length smallest [] startOf script (recordsOf script))
-    (through takenOf (leb (linesLengthOf (recordsOf script)) (length buffer)) _ _)
+program-decline : (script : List ℕ) → declineOf smallest [] startOf script ≡ pick (isScriptOf script) Decline.Accepted Decline.Script
+unfolding playDeclineOf
+program-decline script = rw start-opens
 
-script-accepted : (script buffer : List ℕ) → isScriptOf script ≡ true → acceptedOf (played script buffer .decline) ≡ true
+-- so a script is played, and what is none is declined
+pub script-played : (script buffer : List ℕ) → isScriptOf script ≡ true → played script buffer ≡ playedOf smallest [] startOf script buffer
 unfolding playOf
-script-accepted script buffer e =
-    rw e (pick-both (λ (p : Playback). acceptedOf (p .decline) ≡ true) (leb (linesLengthOf (recordsOf script)) (length buffer)) refl refl)
+script-played script buffer e = rw (program-decline script, e)
 
--- what is no script is declined
-not-script : (script buffer : List ℕ) → isScriptOf script ≡ false → played script buffer ≡ playback Decline.Script false 0 startOf buffer
+pub not-script : (script buffer : List ℕ) → isScriptOf script ≡ false → played script buffer ≡ playback Decline.Script 0 startOf buffer
 unfolding playOf
-not-script script buffer e = rw e
+not-script script buffer e = rw (program-decline script, e)
+
+-- ---- the lengths of the outputs
+
+abbrev lines : List ℕ → List ℕ
+lines script = linesOf smallest [] startOf script (recordsOf script)
+
+lines-short : (script : List ℕ) → length script ≤ longest → length (lines script) ≤ outputRoom
+lines-short script short = rw (lines-length smallest [] startOf script (recordsOf script)) (omega (arith, length-four (recordsOf script) (omega arith)))
+
+-- no output is longer than that
+printed-short : (script : List ℕ) → length (printedOf script) ≤ outputRoom
+unfolding printedOf widthOf
+printed-short script = go (decLe (length script) longest)
+  where
+    go : Dec (length script ≤ longest) → length (printedOf script) ≤ outputRoom
+    go (yes short) = rw (le-ltb longest (length script) short) (pick-both (λ (l : List ℕ). length l ≤ outputRoom) (isScriptOf script) (lines-short script short) (omega arith))
+    go (no long) = rw (lt-ltb longest (length script) (omega arith)) (omega arith)
 
 -- ---- what is printed
 
-pub print-long : (script buffer : List ℕ) → longest < length script → printOf script buffer ≡ fittedOf declineLine buffer
+pub print-long : (script buffer : List ℕ) → longest < length script → printOf script buffer ≡ writtenOf declineLine buffer
 unfolding printOf printedOf
 print-long script buffer l = rw (lt-ltb longest (length script) l)
 
@@ -70,46 +89,30 @@ unfolding printOf printedOf
 print-accepted script buffer short = go (isScriptOf script) refl
   where
     go : (t : Bool) → isScriptOf script ≡ t → acceptedOf (played script buffer .decline) ≡ true → takenOf (played script buffer) ≡ printOf script buffer
-    go true e ok = rw (le-ltb longest (length script) short, e) (script-fitted script buffer e)
+    go true e ok =
+        let counted : saturatedOf (length (lines script)) ≡ length (lines script) = omega (arith, lines-short script short) in
+        rw (le-ltb longest (length script) short, e, script-played script buffer e, counted)
     go false e ok = absurd (true-not-false (sym (rw (not-script script buffer e) at ok)))
 
 pub print-declined : (script buffer : List ℕ) → length script ≤ longest → acceptedOf (played script buffer .decline) ≡ false
-    → (played script buffer .buffer ≡ buffer) × (printOf script buffer ≡ fittedOf declineLine buffer)
+    → (played script buffer .buffer ≡ buffer) × (printOf script buffer ≡ writtenOf declineLine buffer)
 unfolding printOf printedOf
 print-declined script buffer short = go (isScriptOf script) refl
   where
     go : (t : Bool) → isScriptOf script ≡ t → acceptedOf (played script buffer .decline) ≡ false
-        → (played script buffer .buffer ≡ buffer) × (printOf script buffer ≡ fittedOf declineLine buffer)
-    go true e refused = absurd (true-not-false (sym (script-accepted script buffer e) ∙ refused))
+        → (played script buffer .buffer ≡ buffer) × (printOf script buffer ≡ writtenOf declineLine buffer)
+    go true e refused = absurd (true-not-false (rw (script-played script buffer e) at refused))
     go false e refused = rw (not-script script buffer e, le-ltb longest (length script) short, e) (refl, refl)
 
 -- ---- the program's buffer
 
--- no output is longer than 147,456 bytes
-printed-short : (script : List ℕ) → length (printedOf script) ≤ 147456
-unfolding printedOf widthOf
-printed-short script = go (decLe (length script) longest)
-  where
-    lines : length script ≤ longest → length (linesOf smallest [] startOf script (recordsOf script)) ≤ 147456
-    lines short = rw (lines-length smallest [] startOf script (recordsOf script)) (omega (arith, length-four (recordsOf script) (omega arith)))
-
-    go : Dec (length script ≤ longest) → length (printedOf script) ≤ 147456
-    go (yes short) = rw (le-ltb longest (length script) short) (pick-both (λ (l : List ℕ). length l ≤ 147456) (isScriptOf script) (lines short) (omega arith))
-    go (no long) = rw (lt-ltb longest (length script) (omega arith)) (omega arith)
-
--- so every output fits there
-pub print-fits : (script buffer : List ℕ) → 147456 ≤ length buffer → printOf script buffer .printed ≡ true
+-- it holds every output whole: what is printed are its first bytes
+pub print-fits : (script buffer : List ℕ) → outputRoom ≤ length buffer
+    → (printOf script buffer .bytes ≤ length buffer) × (take (printOf script buffer .bytes) (printOf script buffer .buffer) ≡ printedOf script)
 unfolding printOf
-print-fits script buffer large = rw (le-leb (length (printedOf script)) (length buffer) (omega (arith, printed-short script)))
+print-fits script buffer large =
+    let room : length (printedOf script) ≤ length buffer = omega (arith, printed-short script) in
+    (room, front-whole (printedOf script) buffer room)
 
--- its bytes lie within the buffer
-bytes-within : (script buffer : List ℕ) → printOf script buffer .bytes ≤ length buffer
-unfolding printOf
-bytes-within script buffer = go (leb (length (printedOf script)) (length buffer)) refl
-  where
-    go : (t : Bool) → leb (length (printedOf script)) (length buffer) ≡ t → printOf script buffer .bytes ≤ length buffer
-    go true e = rw e (leb-true (length (printedOf script)) (length buffer) e)
-    go false e = rw e (omega arith)
-
-pub print-within : (script buffer : List ℕ) (p : Printout) → p ≡ printOf script buffer → p .bytes ≤ length buffer
-print-within script buffer p e = rw e (bytes-within script buffer)
+pub print-within : (script buffer : List ℕ) (p : Printout) → p ≡ printOf script buffer → outputRoom ≤ length buffer → p .bytes ≤ length buffer
+print-within script buffer p e large = rw e (print-fits script buffer large .0)

@@ -1,21 +1,24 @@
 -- A play: what each record does, and what is printed for it. Assumes nothing.
 use Prim.Native.Nat.{ℕ, zero, suc}
-use mathlib.Core.Bool.{Bool, true, false}
 use mathlib.Core.List.{List, [], _∷_, _++_}
-use lib.Dec.{eqb, leb}
-use lib.ListN.{length, drop}
+use lib.Dec.{eqb}
+use lib.ListN.{length}
 use Rattle.words.specs.Word.{pick}
+use Rattle.lines.specs.Buffer.{putFirst, saturatedOf}
+use Rattle.lines.specs.Lines.{lineOf, linesLengthOf}
 use Rattle.geometry.specs.declared.banks.Geometry.{Geometry}
 use Rattle.geometry.specs.declared.decline.Decline.{Decline}
-use Rattle.geometry.specs.Decline.{numberOf}
+use Rattle.geometry.specs.Decline.{numberOf, acceptedOf, firstOf}
+use Rattle.device.specs.declared.record.Device.{Device}
+use Rattle.device.specs.Opening.{openingOf}
 use Rattle.access.specs.declared.store.Stored.{Stored}
 use Rattle.access.specs.Store.{storeOf}
 use Rattle.flash.specs.Step.{After, after, stepOf}
 use Rattle.controller.specs.Reset.{resetOf}
 use Rattle.machine.specs.Machine.{State, left, Operation}
+use Rattle.script.specs.declared.play.PlayLength.{PlayLength}
 use Rattle.script.specs.declared.records.Record.{Record}
 use Rattle.script.specs.Records.{recordOf, recordsOf, isScriptOf}
-use Rattle.script.specs.Lines.{lineOf, linesLengthOf}
 
 -- "Resets use mask 0."
 abbrev pub maskZero : List ℕ
@@ -47,35 +50,44 @@ linesOf g sram s script zero = []
 linesOf g sram s script (suc i) =
     linesOf g sram s script i ++ recordLineOf i (recordAfterOf g sram (stateOf g sram s script i) (recordOf script i))
 
--- a buffer whose first bytes are the output; "bytes past the output" as before
-abbrev pub putFirst : List ℕ → List ℕ → List ℕ
-putFirst output buffer = output ++ drop (length output) buffer
+-- declines 1, 2, 3 and 14
+unfoldable pub playDeclineOf : Geometry → Device → ℕ → ℕ → ℕ → List ℕ → Decline
+playDeclineOf g d one two sram script =
+    firstOf (openingOf g d (one ∷ two ∷ []) sram) (pick (isScriptOf script) Decline.Accepted Decline.Script)
 
--- everything after a play: the answer, whether the script was played, the bytes of the output, the state, the buffer
+-- so by what is lent
+abbrev pub declineOf : Geometry → List ℕ → State → List ℕ → Decline
+declineOf g sram s script = playDeclineOf g (s .device) (length (s .one)) (length (s .two)) (length sram) script
+
+-- everything after a play: the answer, the bytes of the whole output, the state, the buffer
 pub record Playback : Type 0 where
   pub decline : Decline
-  pub played : Bool
   pub bytes : ℕ
   pub after : State
   pub buffer : List ℕ
 
-abbrev pub playback : Decline → Bool → ℕ → State → List ℕ → Playback
-playback decline played bytes after buffer = record { decline = decline; played = played; bytes = bytes; after = after; buffer = buffer }
+abbrev pub playback : Decline → ℕ → State → List ℕ → Playback
+playback decline bytes after buffer = record { decline = decline; bytes = bytes; after = after; buffer = buffer }
 
--- a script that is played: every record in its order
+-- a script that is played: every record in its order. A buffer of any length takes as much of the output as fits (ours)
 abbrev pub playedOf : Geometry → List ℕ → State → List ℕ → List ℕ → Playback
 playedOf g sram s script buffer =
     let output = linesOf g sram s script (recordsOf script) in
-    playback Decline.Accepted true (length output) (stateOf g sram s script (recordsOf script)) (putFirst output buffer)
+    playback Decline.Accepted (saturatedOf (length output)) (stateOf g sram s script (recordsOf script)) (putFirst output buffer)
 
--- decline 14: "nothing is played". Nor is anything played where the output does not fit into the buffer (ours: the paper
--- gives no number for it, so the answer is 0 with `played` false)
+-- decline 14: "nothing is played"; so under every decline
 unfoldable pub playOf : Geometry → List ℕ → State → List ℕ → List ℕ → Playback
 playOf g sram s script buffer =
-    pick (isScriptOf script)
-    (pick (leb (linesLengthOf (recordsOf script)) (length buffer)) (playedOf g sram s script buffer)
-    (playback Decline.Accepted false 0 s buffer))
-    (playback Decline.Script false 0 s buffer)
+    pick (acceptedOf (declineOf g sram s script)) (playedOf g sram s script buffer) (playback (declineOf g sram s script) 0 s buffer)
+
+abbrev pub playLength : Decline → ℕ → PlayLength
+playLength decline bytes = record { decline = decline; bytes = bytes }
+
+-- the answer to a play, and the bytes of its whole output, without playing it (ours; `play-length` of proofs/PlayLaws)
+unfoldable pub playLengthOf : Geometry → List ℕ → State → List ℕ → PlayLength
+playLengthOf g sram s script =
+    pick (acceptedOf (declineOf g sram s script)) (playLength Decline.Accepted (saturatedOf (linesLengthOf (recordsOf script))))
+    (playLength (declineOf g sram s script) 0)
 
 -- ---- a play as a run of the machine (`play-runs` of proofs/MachineLaws)
 

@@ -1,10 +1,11 @@
 -- What the play program prints. Assumes nothing.
 use Prim.Native.Nat.{ℕ}
-use mathlib.Core.Bool.{Bool, true, false}
 use mathlib.Core.List.{List, []}
-use lib.Dec.{ltb, leb}
+use lib.Dec.{ltb}
 use lib.ListN.{length, set, replicate}
 use Rattle.words.specs.Word.{pick, allOnes}
+use Rattle.lines.specs.Buffer.{putFirst}
+use Rattle.lines.specs.Lines.{lineFeed, decimalOf}
 use Rattle.geometry.specs.declared.banks.Geometry.{Geometry}
 use Rattle.geometry.specs.declared.decline.Decline.{Decline}
 use Rattle.geometry.specs.Banks.{bankWordsOf}
@@ -13,8 +14,7 @@ use Rattle.geometry.specs.Sequence.{sequenceIndexOf}
 use Rattle.device.specs.Record.{powerOn}
 use Rattle.machine.specs.Machine.{State, state}
 use Rattle.script.specs.Records.{recordsOf, isScriptOf}
-use Rattle.script.specs.Lines.{lineFeed, decimalOf}
-use Rattle.script.specs.Play.{linesOf, putFirst, Playback}
+use Rattle.script.specs.Play.{linesOf, Playback}
 
 -- "Q=B=P=1"
 abbrev pub smallest : Geometry
@@ -45,23 +45,25 @@ printedOf script =
     pick (ltb longest (length script)) declineLine
     (pick (isScriptOf script) (linesOf smallest [] startOf script (recordsOf script)) declineLine)
 
--- everything after it: whether it was printed, its bytes, the buffer
+-- room for every output (ours; `print-fits` of proofs/ProgramLaws): 18 bytes for each of 8,192 records
+abbrev pub outputRoom : ℕ
+outputRoom = 147456
+
+-- everything after it: the bytes of the whole output, the buffer
 pub record Printout : Type 0 where
-  pub printed : Bool
   pub bytes : ℕ
   pub buffer : List ℕ
 
-abbrev pub printout : Bool → ℕ → List ℕ → Printout
-printout printed bytes buffer = record { printed = printed; bytes = bytes; buffer = buffer }
+abbrev pub printout : ℕ → List ℕ → Printout
+printout bytes buffer = record { bytes = bytes; buffer = buffer }
 
 -- what the program takes of a play
 abbrev pub takenOf : Playback → Printout
-takenOf p = printout (p .played) (p .bytes) (p .buffer)
+takenOf p = printout (p .bytes) (p .buffer)
 
--- an output in a lent buffer; where it does not fit, nothing is written (ours)
-abbrev pub fittedOf : List ℕ → List ℕ → Printout
-fittedOf output buffer =
-    pick (leb (length output) (length buffer)) (printout true (length output) (putFirst output buffer)) (printout false 0 buffer)
+-- an output in a lent buffer of any length (ours)
+abbrev pub writtenOf : List ℕ → List ℕ → Printout
+writtenOf output buffer = printout (length output) (putFirst output buffer)
 
 unfoldable pub printOf : List ℕ → List ℕ → Printout
-printOf script buffer = fittedOf (printedOf script) buffer
+printOf script buffer = writtenOf (printedOf script) buffer

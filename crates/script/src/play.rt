@@ -1,39 +1,55 @@
 // Playing a script on lent banks.
 ghost use mathlib.Core.Path.{_≡_};
-ghost use Prim.Native.Nat.{_≤_};
-ghost use lib.ListN.{length};
-ghost use lib.Seq.{sets};
 ghost use Rattle.flash.specs.Step.{after};
 ghost use Rattle.machine.specs.Machine.{state};
-ghost use Rattle.script.specs.Records.{recordsOf};
-ghost use Rattle.script.specs.Lines.{linesLengthOf};
-ghost use Rattle.script.specs.Play.{recordAfterOf, stateOf, linesOf, playback, playOf};
-use crate::lines::fits;
-use crate::lines::put_line;
+ghost use Rattle.script.specs.Play.{recordAfterOf, playDeclineOf, playback, playedOf, playOf, playLengthOf};
 use crate::records::Record;
 use crate::records::is_script;
 use crate::records::record_at;
 use access::store::store;
 use controller::reset::reset;
+use device::opening::opening;
 use device::record::Device;
 use flash::step::Stepped;
 use flash::step::step;
 use geometry::banks::Geometry;
 use geometry::decline::Decline;
+use geometry::lent::Lent;
+use lines::lines::lines_length;
+use lines::lines::write_line;
 
-// The answer to a play. Where the script is declined, or its output does not fit into the buffer, `played` is false and
-// everything is as before.
+// The answer to a play, and the bytes of its whole output: where the buffer is shorter, it holds the output's front.
+// Where the play is declined everything is as before.
 pub struct Played {
     pub decline: Decline,
-    pub played: bool,
     pub bytes: usize,
     pub device: Device,
 }
 
-// What the records left, and the bytes of their lines.
-struct Lines {
-    bytes: usize,
-    device: Device,
+// The answer that a play will give, and the bytes of its whole output.
+pub struct PlayLength {
+    pub decline: Decline,
+    pub bytes: usize,
+}
+
+fn play_decline(
+    g: Geometry,
+    d: Device,
+    one: usize,
+    two: usize,
+    sram: usize,
+    script: &[u8],
+) -> Decline
+    ensures { λ r. ⌜ r ≡ playDeclineOf g d one two sram (now (script .entry)) ⌝ }
+{
+    let decline = opening(g, d, Lent::Banks(one, two), sram);
+    if !decline.is_accepted() {
+        return decline;
+    }
+    if !is_script(script) {
+        return Decline::Script;
+    }
+    Decline::Accepted
 }
 
 // Plays one record.
@@ -70,8 +86,8 @@ fn play_record(
     }
 }
 
-// Plays every record, each with its line.
-fn play_records(
+// Plays a script that is not declined: every record, each with its line.
+fn play_accepted(
     g: Geometry,
     d: Device,
     one: &mut [u32],
@@ -79,11 +95,8 @@ fn play_records(
     sram: &[u32],
     script: &[u8],
     out: &mut [u8],
-) -> Lines
-    requires { ⌜ linesLengthOf (recordsOf (now script)) ≤ length (now out) ⌝ }
-    ensures { λ r. ⌜ state (r .device) (now (one .exit)) (now (two .exit)) ≡ stateOf g (now (sram .entry)) (state d (now (one .entry)) (now (two .entry))) (now (script .entry)) (recordsOf (now (script .entry))) ⌝ }
-    ensures { λ r. ⌜ now (out .exit) ≡ sets (now (out .entry)) 0 (linesOf g (now (sram .entry)) (state d (now (one .entry)) (now (two .entry))) (now (script .entry)) (recordsOf (now (script .entry)))) ⌝ }
-    ensures { λ r. ⌜ r .bytes ≡ length (linesOf g (now (sram .entry)) (state d (now (one .entry)) (now (two .entry))) (now (script .entry)) (recordsOf (now (script .entry)))) ⌝ }
+) -> Played
+    ensures { λ r. ⌜ playback (r .decline) (r .bytes) (state (r .device) (now (one .exit)) (now (two .exit))) (now (out .exit)) ≡ playedOf g (now (sram .entry)) (state d (now (one .entry)) (now (two .entry))) (now (script .entry)) (now (out .entry)) ⌝ }
 {
     let mut device = d;
     let mut bytes = 0;
@@ -92,13 +105,17 @@ fn play_records(
         let a = play_record(g, device, one, two, sram, record_at(script, i));
         let decline = a.decline;
         device = a.device;
-        bytes = put_line(out, bytes, i, decline.number(), device.nvmcon.0, a.event);
+        bytes = write_line(out, bytes, i, decline.number(), device.nvmcon.0, a.event);
         i += 1;
     }
-    Lines { bytes, device }
+    Played {
+        decline: Decline::Accepted,
+        bytes,
+        device,
+    }
 }
 
-// Plays a script on two banks and an SRAM from a device, with a line for each record in the buffer.
+// Plays a script on two banks and an SRAM from a device, with a line for each record in a buffer of any length.
 pub fn play(
     g: Geometry,
     d: Device,
@@ -108,30 +125,36 @@ pub fn play(
     script: &[u8],
     out: &mut [u8],
 ) -> Played
-    ensures { λ r. ⌜ playback (r .decline) (r .played) (r .bytes) (state (r .device) (now (one .exit)) (now (two .exit))) (now (out .exit)) ≡ playOf g (now (sram .entry)) (state d (now (one .entry)) (now (two .entry))) (now (script .entry)) (now (out .entry)) ⌝ }
+    ensures { λ r. ⌜ playback (r .decline) (r .bytes) (state (r .device) (now (one .exit)) (now (two .exit))) (now (out .exit)) ≡ playOf g (now (sram .entry)) (state d (now (one .entry)) (now (two .entry))) (now (script .entry)) (now (out .entry)) ⌝ }
 {
-    if !is_script(script) {
+    let decline = play_decline(g, d, one.len(), two.len(), sram.len(), script);
+    if !decline.is_accepted() {
         return Played {
-            decline: Decline::Script,
-            played: false,
+            decline,
             bytes: 0,
             device: d,
         };
     }
-    if !fits(script.len() / 8, out.len()) {
-        return Played {
-            decline: Decline::Accepted,
-            played: false,
-            bytes: 0,
-            device: d,
-        };
+    play_accepted(g, d, one, two, sram, script, out)
+}
+
+// The bytes of the whole output of a play on the same inputs, so that a buffer can be lent that holds it.
+pub fn play_length(
+    g: Geometry,
+    d: Device,
+    one: &[u32],
+    two: &[u32],
+    sram: &[u32],
+    script: &[u8],
+) -> PlayLength
+    ensures { λ r. ⌜ r ≡ playLengthOf g (now (sram .entry)) (state d (now (one .entry)) (now (two .entry))) (now (script .entry)) ⌝ }
+{
+    let decline = play_decline(g, d, one.len(), two.len(), sram.len(), script);
+    if !decline.is_accepted() {
+        return PlayLength { decline, bytes: 0 };
     }
-    let l = play_records(g, d, one, two, sram, script, out);
-    let device = l.device;
-    Played {
+    PlayLength {
         decline: Decline::Accepted,
-        played: true,
-        bytes: l.bytes,
-        device,
+        bytes: lines_length(script.len() / 8),
     }
 }

@@ -2,14 +2,15 @@
 ghost use mathlib.Core.Path.{_≡_};
 ghost use mathlib.Core.List.{[]};
 ghost use Rattle.script.specs.Play.{playOf};
-ghost use Rattle.script.specs.Program.{smallest, startOf, declineLine, printout, takenOf, fittedOf, printOf};
-use crate::lines::LINE_FEED;
-use crate::lines::put_decimal;
+ghost use Rattle.script.specs.Program.{smallest, startOf, declineLine, printout, takenOf, writtenOf, printOf};
 use crate::play::Played;
 use crate::play::play;
 use device::record::power_on;
 use geometry::banks::Geometry;
 use geometry::decline::Decline;
+use lines::buffer::put_front;
+use lines::lines::LINE_FEED;
+use lines::lines::put_decimal;
 
 // The longest script in bytes.
 pub const LONGEST: usize = 65536;
@@ -22,16 +23,10 @@ const BANK: usize = 64;
 
 const SEQUENCE: usize = 28;
 
-// The answer to a print. Where the output does not fit into the buffer, `printed` is false and the buffer is as before.
-pub struct Printed {
-    pub printed: bool,
-    pub bytes: usize,
-}
-
 // Plays a script after power-on on banks of all ones but bank 1's sequence word.
 fn play_after_power_on(script: &[u8], out: &mut [u8]) -> Played
     ensures { λ r. ⌜ r .decline ≡ playOf smallest [] startOf (now (script .entry)) (now (out .entry)) .decline ⌝ }
-    ensures { λ r. ⌜ printout (r .played) (r .bytes) (now (out .exit)) ≡ takenOf (playOf smallest [] startOf (now (script .entry)) (now (out .entry))) ⌝ }
+    ensures { λ r. ⌜ printout (r .bytes) (now (out .exit)) ≡ takenOf (playOf smallest [] startOf (now (script .entry)) (now (out .entry))) ⌝ }
 {
     let g = Geometry { q: 1, b: 1, p: 1 };
     let mut one = [0xFFFF_FFFFu32; BANK];
@@ -41,26 +36,20 @@ fn play_after_power_on(script: &[u8], out: &mut [u8]) -> Played
     play(g, power_on(), &mut one, &mut two, &sram[0..0], script, out)
 }
 
-// Writes the line of decline 14.
-fn print_decline(out: &mut [u8]) -> Printed
-    ensures { λ r. ⌜ printout (r .printed) (r .bytes) (now (out .exit)) ≡ fittedOf declineLine (now (out .entry)) ⌝ }
+// Writes the line of decline 14; gives its bytes.
+fn print_decline(out: &mut [u8]) -> usize
+    ensures { λ r. ⌜ printout r (now (out .exit)) ≡ writtenOf declineLine (now (out .entry)) ⌝ }
 {
-    if out.len() < 3 {
-        return Printed {
-            printed: false,
-            bytes: 0,
-        };
-    }
+    let mut line = [0u8; 3];
     let number = Decline::Script.number();
-    Printed {
-        printed: true,
-        bytes: put_decimal(out, 0, number as usize, LINE_FEED),
-    }
+    let count = put_decimal(&mut line, 0, number as usize, LINE_FEED);
+    put_front(out, 0, &line);
+    count
 }
 
-// Writes what is printed for a script.
-pub fn print(script: &[u8], out: &mut [u8]) -> Printed
-    ensures { λ r. ⌜ printout (r .printed) (r .bytes) (now (out .exit)) ≡ printOf (now (script .entry)) (now (out .entry)) ⌝ }
+// Writes what is printed for a script into a buffer of any length, as much of its front as fits; gives the bytes of all of it.
+pub fn print(script: &[u8], out: &mut [u8]) -> usize
+    ensures { λ r. ⌜ printout r (now (out .exit)) ≡ printOf (now (script .entry)) (now (out .entry)) ⌝ }
 {
     if LONGEST < script.len() {
         return print_decline(out);
@@ -68,10 +57,7 @@ pub fn print(script: &[u8], out: &mut [u8]) -> Printed
     let a = play_after_power_on(script, out);
     let decline = a.decline;
     if decline.is_accepted() {
-        return Printed {
-            printed: a.played,
-            bytes: a.bytes,
-        };
+        return a.bytes;
     }
     print_decline(out)
 }

@@ -2,6 +2,7 @@
 // for it stands a line of one hyphen.
 ghost use Prim.Native.Nat.{_+_, _≤_, _<_};
 ghost use lib.ListN.{length};
+ghost use Rattle.script.specs.Program.{outputRoom};
 use libc::STDIN_FILENO;
 use libc::STDOUT_FILENO;
 use script::program::OUTPUT;
@@ -25,14 +26,18 @@ fn length_at(input: &[u8], at: usize) -> usize
 }
 
 // Plays one script.
-fn play_one(script: &[u8], out: &mut [u8]) {
-    let p = print(script, out);
-    io::write_all(STDOUT_FILENO, &out[..p.bytes]);
+fn play_one(script: &[u8], out: &mut [u8])
+    requires { ⌜ outputRoom ≤ length (now out) ⌝ }
+{
+    let bytes = print(script, out);
+    io::write_all(STDOUT_FILENO, &out[..bytes]);
     io::write_all(STDOUT_FILENO, b"-\n");
 }
 
 // Plays every script that is there whole.
-fn play_all(input: &[u8], out: &mut [u8]) {
+fn play_all(input: &[u8], out: &mut [u8])
+    requires { ⌜ outputRoom ≤ length (now out) ⌝ }
+{
     let mut at = 0;
     while 4 <= input.len() - at {
         let start = at + 4;
@@ -46,7 +51,9 @@ fn play_all(input: &[u8], out: &mut [u8]) {
     }
 }
 
-fn play_input(input: &mut [u8], out: &mut [u8]) {
+fn play_input(input: &mut [u8], out: &mut [u8])
+    requires { ⌜ outputRoom ≤ length (now out) ⌝ }
+{
     let count = io::read_full(STDIN_FILENO, input);
     play_all(&input[..count], out);
 }

@@ -1,4 +1,4 @@
--- What is printed lies within the buffer.
+-- What is printed lies within the buffer, which has room for every output.
 use borrow.Author.Needs.{needs}
 use lib.Seq.{length-take-le}
 use mathlib.Core.Path.{sym}
@@ -12,8 +12,8 @@ play-one-spec =
     tie.close
     (tie.spec
     (λ c κs. search needs)
-    (λ c. omega (arith, print-within _ _ _ (c .before .before .print .ensures)))
-    (λ c. sym (length-take-le _ _ (omega (arith, print-within _ _ _ (c .before .before .before .print .ensures)))))
+    (λ c. omega (arith, print-within _ _ _ (c .before .before .print .ensures) (omega (arith, c .before .before .before .before .before .before .pre))))
+    (λ c. sym (length-take-le _ _ (omega (arith, print-within _ _ _ (c .before .before .before .print .ensures) (omega (arith, c .before .before .before .before .before .before .before .pre))))))
     (λ c κs. search needs)
     (λ c. search needs)
     (λ c κs. search needs)

@@ -1,0 +1,3 @@
+pub mod BufferLaws
+pub mod DigitLaws
+pub mod LineLaws
