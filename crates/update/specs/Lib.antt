@@ -1,0 +1,4 @@
+pub mod Actions
+pub mod Start
+pub mod Turn
+pub mod PowerFail

@@ -1,0 +1,66 @@
+-- A turn: why it is declined, and what it does. Assumes nothing.
+use Prim.Native.Nat.{ℕ, _+_}
+use mathlib.Core.Bool.{Bool, true, false}
+use mathlib.Core.List.{List, [], _∷_}
+use lib.Dec.{eqb, ltb}
+use lib.ListN.{length}
+use Rattle.words.specs.Word.{pick}
+use Rattle.geometry.specs.declared.banks.Geometry.{Geometry}
+use Rattle.geometry.specs.declared.decline.Decline.{Decline}
+use Rattle.geometry.specs.Decline.{acceptedOf, firstOf}
+use Rattle.device.specs.declared.record.Device.{Device}
+use Rattle.device.specs.Record.{running}
+use Rattle.device.specs.Opening.{openingOf}
+use Rattle.access.specs.declared.store.Stored.{Stored}
+use Rattle.access.specs.Store.{storeOf}
+use Rattle.flash.specs.Step.{After, after, stepOf}
+use Rattle.machine.specs.Machine.{State, left}
+use Rattle.update.specs.declared.actions.Action.{Action}
+use Rattle.update.specs.declared.actions.Action.the-variants.{Store, Step}
+use Rattle.update.specs.Actions.{actionAtOf, totalOf}
+use Rattle.update.specs.Start.{lowerWordOf}
+
+-- "Let t be the low half of the lower-alias bank's sequence word, read at each turn": the action of a place
+abbrev pub nextActionOf : Geometry → State → List ℕ → ℕ → Action
+nextActionOf g s image place = actionAtOf g image (lowerWordOf g s) place
+
+-- "a turn whose action is declined (5 or 6)"
+abbrev pub actionDeclineOf : Device → Action → Decline
+actionDeclineOf d (Store r form value) = pick (running d) Decline.Running Decline.Accepted
+actionDeclineOf d Step = pick (running d) Decline.Accepted Decline.Idle
+
+-- declines 1, 2, 3, 5 or 6, and 13: "A turn whose place exceeds the total."
+unfoldable pub turnDeclineOf : Geometry → State → List ℕ → ℕ → ℕ → Decline
+turnDeclineOf g s image sram place =
+    firstOf (openingOf g (s .device) (length (s .one) ∷ length (s .two) ∷ length image ∷ []) sram)
+    (pick (ltb place (totalOf g)) (actionDeclineOf (s .device) (nextActionOf g s image place))
+    (pick (eqb place (totalOf g)) Decline.Accepted Decline.Place))
+
+-- everything after a turn
+pub record Turning : Type 0 where
+  pub decline : Decline
+  pub done : Bool
+  pub state : State
+  pub place : ℕ
+  pub event : Bool
+
+abbrev pub turning : Decline → Bool → State → ℕ → Bool → Turning
+turning decline done s place event = record { decline = decline; done = done; state = s; place = place; event = event }
+
+-- everything after an action that is carried out
+abbrev pub performOf : Geometry → State → List ℕ → Action → After
+performOf g s sram (Store r form value) =
+    let a = storeOf g (s .device) r form value in after (a .decline) (a .device) (s .one) (s .two) (a .event)
+performOf g s sram Step = stepOf g (s .device) (s .one) (s .two) sram
+
+-- "Each turn does one action and raises the place by 1"
+abbrev pub performed : ℕ → After → Turning
+performed place a = turning (a .decline) false (left a) (place + 1) (a .event)
+
+-- "gives that number and keeps its place"; "At the total, and only there, it says done and changes nothing."
+unfoldable pub turnOf : Geometry → State → List ℕ → List ℕ → ℕ → Turning
+turnOf g s image sram place =
+    pick (acceptedOf (turnDeclineOf g s image (length sram) place))
+    (pick (eqb place (totalOf g)) (turning Decline.Accepted true s place false)
+    (performed place (performOf g s sram (nextActionOf g s image place))))
+    (turning (turnDeclineOf g s image (length sram) place) false s place false)

@@ -1,0 +1,2 @@
+// The update: its actions by place.
+pub mod actions;
