@@ -24,8 +24,9 @@ fn room(length: usize, at: usize, count: usize) -> usize
     if length <= at {
         return 0;
     }
-    if length - at < count {
-        return length - at;
+    let left = length - at;
+    if left < count {
+        return left;
     }
     count
 }

@@ -22,6 +22,7 @@ fn is_end(input: &mut [u8], count: usize) -> bool
     libc::read(STDIN_FILENO, &mut input[count..]) == 0
 }
 
+// Reads a script and writes what is printed for it; the buffer has room for every output.
 fn play_input(input: &mut [u8], out: &mut [u8])
     requires { ⌜ outputRoom ≤ length (now out) ⌝ }
 {

@@ -18,7 +18,6 @@ use Rattle.geometry.specs.declared.decline.Decline.{Decline}
 use Rattle.geometry.specs.Banks.{inRangeOf}
 use Rattle.geometry.specs.Decline.{numberOf, acceptedOf}
 use Rattle.geometry.specs.Lent.{lengthsFitOf, lentDeclineOf}
-use Rattle.geometry.proofs.DeclineLaws.{held, neither}
 use Rattle.device.specs.declared.record.Device.{Device}
 use Rattle.device.specs.Record.{running}
 use Rattle.device.specs.Possible.{possibleOf}
@@ -88,22 +87,33 @@ answer-digit g sram s r a e = rw e (record-digit g sram s r)
 
 -- ---- 0, 4, 5 or 6
 
+-- the answers that a record gets in a play
 abbrev pub RecordAnswer : Decline → Type 0
 RecordAnswer d = (numberOf d ≡ 0) ⊎ ((numberOf d ≡ 4) ⊎ ((numberOf d ≡ 5) ⊎ (numberOf d ≡ 6)))
 
--- a play that is accepted begins with a possible device over banks of the geometry's length
+-- a play that is accepted is declined neither by its opening nor for its script
+neither-declines : (g : Geometry) (sram : List ℕ) (s : State) (script : List ℕ) → acceptedOf (declineOf g sram s script) ≡ true
+    → (acceptedOf (openingOf g (s .device) (length (s .one) ∷ length (s .two) ∷ []) (length sram)) ≡ true) × (isScriptOf script ≡ true)
+unfolding playDeclineOf
+neither-declines g sram s script = go (acceptedOf opening) refl (isScriptOf script) refl
+  where
+    opening : Decline
+    opening = openingOf g (s .device) (length (s .one) ∷ length (s .two) ∷ []) (length sram)
+
+    go : (a : Bool) → acceptedOf opening ≡ a → (b : Bool) → isScriptOf script ≡ b → acceptedOf (declineOf g sram s script) ≡ true
+        → (acceptedOf opening ≡ true) × (isScriptOf script ≡ true)
+    go true ea true eb h = (ea, eb)
+    go false ea true eb h = absurd (true-not-false (sym (simp (ea, eb) at h)))
+    go false ea false eb h = absurd (true-not-false (sym (simp (ea, eb) at h)))
+    go true ea false eb h = absurd (true-not-false (sym (simp (ea, eb) at h)))
+
+-- so it begins with a possible device over banks of the geometry's length
 pub accepted-sound : (g : Geometry) (sram : List ℕ) (s : State) (script : List ℕ) → acceptedOf (declineOf g sram s script) ≡ true
     → (inRangeOf g ≡ true) × (length sram ≤ 16384) × Sound g s × (isScriptOf script ≡ true)
-unfolding playDeclineOf
 accepted-sound g sram s script h =
-    let lengths = length (s .one) ∷ length (s .two) ∷ [] in
-    let (opened, known) = neither (openingOf g (s .device) lengths (length sram)) _ h in
-    let r = ready g (s .device) lengths (length sram) opened in (
-      r .lent .listed,
-      r .lent .room,
-      record { possible = r .possible; first = r .lent .banks .0; other = r .lent .banks .1 .0 },
-      held (isScriptOf script) Decline.Accepted Decline.Script refl known .0,
-    )
+    let (opened, known) = neither-declines g sram s script h in
+    let r = ready g (s .device) (length (s .one) ∷ length (s .two) ∷ []) (length sram) opened in
+    (r .lent .listed, r .lent .room, record { possible = r .possible; first = r .lent .banks .0; other = r .lent .banks .1 .0 }, known)
 
 picked : (t x : Bool) → pick t x false ≡ true → x ≡ true
 picked true x h = h

@@ -2,10 +2,10 @@
 -- Assumes nothing.
 use mathlib.Core.Path.{_≡_, refl, sym, ap, _∙_}
 use mathlib.Core.Bool.{Bool, true, false}
-use Prim.Native.Nat.{ℕ, zero, suc, _+_, _-_, _*_, _^_, _≤_, _<_}
+use Prim.Native.Nat.{ℕ, zero, suc, _+_, _-_, _^_, _≤_, _<_}
 use native.Mathlib.Omega.{arith}
 use native.Mathlib.Decide.{decLe}
-use mathlib.Core.List.{List, [], _∷_, _++_}
+use mathlib.Core.List.{List, _++_}
 use lib.ListN.{length, length-append}
 use lib.Seq.{sets}
 use Rattle.words.proofs.BitLaws.{true-not-false}
@@ -19,7 +19,6 @@ use Rattle.lines.specs.Digits.{widthOf}
 use Rattle.lines.specs.Lines.{linesLengthOf}
 use Rattle.lines.proofs.BufferLaws.{sets-out, sets-after, sets-front}
 use Rattle.lines.proofs.LineLaws.{line-length, length-counted}
-use Rattle.script.specs.declared.play.PlayLength.{PlayLength}
 use Rattle.script.specs.declared.records.Record.{Record}
 use Rattle.script.specs.Records.{recordOf, recordsOf}
 use Rattle.script.specs.Play.{recordAfterOf, stateOf, recordLineOf, linesOf, declineOf, playback, playedOf, playOf, playLengthOf}
@@ -47,18 +46,24 @@ accepted-played g sram s script buffer = go (acceptedOf (declineOf g sram s scri
     go true e h = rw e
     go false e h = absurd (true-not-false (sym (rw e at h) ∙ e))
 
--- the answer and the bytes of a play, whatever its buffer, are those that `play_length` gives
+-- the answer and the bytes of a play are the same whatever its buffer, so that `play_length` gives them beforehand
 pub play-length : (g : Geometry) (sram : List ℕ) (s : State) (script buffer : List ℕ)
-    → (playOf g sram s script buffer .decline ≡ playLengthOf g sram s script .decline)
-    × (playOf g sram s script buffer .bytes ≡ playLengthOf g sram s script .bytes)
+    → (playLengthOf g sram s script .decline ≡ playOf g sram s script buffer .decline)
+    × (playLengthOf g sram s script .bytes ≡ playOf g sram s script buffer .bytes)
 unfolding playOf playLengthOf
 play-length g sram s script buffer = go (acceptedOf (declineOf g sram s script)) refl
   where
     go : (t : Bool) → acceptedOf (declineOf g sram s script) ≡ t
-        → (playOf g sram s script buffer .decline ≡ playLengthOf g sram s script .decline)
-        × (playOf g sram s script buffer .bytes ≡ playLengthOf g sram s script .bytes)
-    go true e = rw (e, lines-length g sram s script (recordsOf script)) (refl, refl)
+        → (playLengthOf g sram s script .decline ≡ playOf g sram s script buffer .decline)
+        × (playLengthOf g sram s script .bytes ≡ playOf g sram s script buffer .bytes)
+    go true e = rw e (refl, refl)
     go false e = rw e (refl, refl)
+
+-- where the play is accepted they are those of so many lines
+pub length-accepted : (g : Geometry) (sram : List ℕ) (s : State) (script : List ℕ) → acceptedOf (declineOf g sram s script) ≡ true
+    → playLengthOf g sram s script ≡ record { decline = Decline.Accepted; bytes = saturatedOf (linesLengthOf (recordsOf script)) }
+unfolding playOf playLengthOf
+length-accepted g sram s script e = rw (e, lines-length g sram s script (recordsOf script))
 
 -- of a script shorter than 2 ^ 62 bytes they are all counted
 pub bytes-counted : (g : Geometry) (sram : List ℕ) (s : State) (script buffer : List ℕ) → length script < 2 ^ 62

@@ -1,6 +1,6 @@
 -- What the play program prints: it is the play after a power-on, which no decline but 14 meets, and its buffer has room.
 -- Assumes nothing.
-use mathlib.Core.Path.{_≡_, refl, sym, _∙_}
+use mathlib.Core.Path.{_≡_, refl, sym}
 use mathlib.Core.Bool.{Bool, true, false}
 use mathlib.Core.List.{List, [], _∷_}
 use Prim.Native.Nat.{ℕ, _≤_, _<_}
@@ -8,10 +8,9 @@ use native.Mathlib.Decide.{decLe}
 use native.Mathlib.Omega.{arith}
 use borrow.Author.Tests.{le-ltb, lt-ltb}
 use lib.ListN.{length, take}
-use Rattle.words.specs.Word.{pick}
 use Rattle.words.proofs.PickLaws.{pick-both}
 use Rattle.words.proofs.BitLaws.{true-not-false}
-use Rattle.lines.specs.Buffer.{putFirst, saturatedOf}
+use Rattle.lines.specs.Buffer.{saturatedOf}
 use Rattle.lines.specs.Digits.{widthOf}
 use Rattle.lines.proofs.BufferLaws.{front-whole}
 use Rattle.lines.proofs.LineLaws.{length-four}
@@ -26,8 +25,8 @@ use Rattle.device.proofs.OpeningLaws.{opens}
 use Rattle.controller.specs.Reset.{comparedOf, resetConOf, resetDeviceOf}
 use Rattle.machine.proofs.Machine.{controller}
 use Rattle.script.specs.Records.{recordsOf, isScriptOf}
-use Rattle.script.specs.Play.{linesOf, playDeclineOf, declineOf, Playback, playback, playedOf, playOf}
-use Rattle.script.specs.Program.{smallest, firstBank, erasedBank, startOf, longest, declineLine, printedOf, outputRoom, Printout, printout, takenOf, writtenOf, printOf}
+use Rattle.script.specs.Play.{linesOf, playDeclineOf, Playback, playback, playedOf, playOf}
+use Rattle.script.specs.Program.{smallest, firstBank, erasedBank, startOf, longest, declineLine, printedOf, outputRoom, Printout, takenOf, writtenOf, printOf}
 use Rattle.script.proofs.PlayLaws.{lines-length}
 
 -- any power-on of the program's banks gives its device
@@ -47,18 +46,14 @@ start-opens =
     opens smallest powerOn (length firstBank ∷ length erasedBank ∷ []) 0 refl (refl, (refl, tt)) (omega arith)
     (controller .power-on smallest firstBank erasedBank refl refl .possible)
 
-program-decline : (script : List ℕ) → declineOf smallest [] startOf script ≡ pick (isScriptOf script) Decline.Accepted Decline.Script
-unfolding playDeclineOf
-program-decline script = rw start-opens
-
 -- so a script is played, and what is none is declined
-pub script-played : (script buffer : List ℕ) → isScriptOf script ≡ true → played script buffer ≡ playedOf smallest [] startOf script buffer
-unfolding playOf
-script-played script buffer e = rw (program-decline script, e)
+script-played : (script buffer : List ℕ) → isScriptOf script ≡ true → played script buffer ≡ playedOf smallest [] startOf script buffer
+unfolding playOf playDeclineOf
+script-played script buffer e = simp (start-opens, e)
 
-pub not-script : (script buffer : List ℕ) → isScriptOf script ≡ false → played script buffer ≡ playback Decline.Script 0 startOf buffer
-unfolding playOf
-not-script script buffer e = rw (program-decline script, e)
+not-script : (script buffer : List ℕ) → isScriptOf script ≡ false → played script buffer ≡ playback Decline.Script 0 startOf buffer
+unfolding playOf playDeclineOf
+not-script script buffer e = simp (start-opens, e)
 
 -- ---- the lengths of the outputs
 

@@ -5,7 +5,7 @@ use lib.Dec.{eqb}
 use lib.ListN.{length}
 use Rattle.words.specs.Word.{pick}
 use Rattle.lines.specs.Buffer.{putFirst, saturatedOf}
-use Rattle.lines.specs.Lines.{lineOf, linesLengthOf}
+use Rattle.lines.specs.Lines.{lineOf}
 use Rattle.geometry.specs.declared.banks.Geometry.{Geometry}
 use Rattle.geometry.specs.declared.decline.Decline.{Decline}
 use Rattle.geometry.specs.Decline.{numberOf, acceptedOf, firstOf}
@@ -50,12 +50,12 @@ linesOf g sram s script zero = []
 linesOf g sram s script (suc i) =
     linesOf g sram s script i ++ recordLineOf i (recordAfterOf g sram (stateOf g sram s script i) (recordOf script i))
 
--- declines 1, 2, 3 and 14
+-- declines 1, 2, 3 and 14: "The lowest number that applies is returned"
 unfoldable pub playDeclineOf : Geometry → Device → ℕ → ℕ → ℕ → List ℕ → Decline
 playDeclineOf g d one two sram script =
     firstOf (openingOf g d (one ∷ two ∷ []) sram) (pick (isScriptOf script) Decline.Accepted Decline.Script)
 
--- so by what is lent
+-- so of a play on a state and a lent SRAM
 abbrev pub declineOf : Geometry → List ℕ → State → List ℕ → Decline
 declineOf g sram s script = playDeclineOf g (s .device) (length (s .one)) (length (s .two)) (length sram) script
 
@@ -69,25 +69,21 @@ pub record Playback : Type 0 where
 abbrev pub playback : Decline → ℕ → State → List ℕ → Playback
 playback decline bytes after buffer = record { decline = decline; bytes = bytes; after = after; buffer = buffer }
 
--- a script that is played: every record in its order. A buffer of any length takes as much of the output as fits (ours)
+-- a script that is played: every record in its order. The buffer takes as much of the output's front as fits, and the bytes are those
+-- of the whole output (ours; `bytes-counted` of proofs/PlayLaws: exactly, of a script shorter than 2 ^ 62 bytes)
 abbrev pub playedOf : Geometry → List ℕ → State → List ℕ → List ℕ → Playback
 playedOf g sram s script buffer =
     let output = linesOf g sram s script (recordsOf script) in
     playback Decline.Accepted (saturatedOf (length output)) (stateOf g sram s script (recordsOf script)) (putFirst output buffer)
 
--- decline 14: "nothing is played"; so under every decline
+-- a play; where it is declined "device and lent memory keep their contents", and so the buffer
 unfoldable pub playOf : Geometry → List ℕ → State → List ℕ → List ℕ → Playback
 playOf g sram s script buffer =
     pick (acceptedOf (declineOf g sram s script)) (playedOf g sram s script buffer) (playback (declineOf g sram s script) 0 s buffer)
 
-abbrev pub playLength : Decline → ℕ → PlayLength
-playLength decline bytes = record { decline = decline; bytes = bytes }
-
--- the answer to a play, and the bytes of its whole output, without playing it (ours; `play-length` of proofs/PlayLaws)
+-- the answer and the bytes that a play will give: those of one with no buffer, as with any (ours; `play-length` of proofs/PlayLaws)
 unfoldable pub playLengthOf : Geometry → List ℕ → State → List ℕ → PlayLength
-playLengthOf g sram s script =
-    pick (acceptedOf (declineOf g sram s script)) (playLength Decline.Accepted (saturatedOf (linesLengthOf (recordsOf script))))
-    (playLength (declineOf g sram s script) 0)
+playLengthOf g sram s script = record { decline = playOf g sram s script [] .decline; bytes = playOf g sram s script [] .bytes }
 
 -- ---- a play as a run of the machine (`play-runs` of proofs/MachineLaws)
 

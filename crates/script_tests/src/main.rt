@@ -25,7 +25,7 @@ fn length_at(input: &[u8], at: usize) -> usize
     low + 65536 * high
 }
 
-// Plays one script.
+// Plays one script; the buffer has room for every output.
 fn play_one(script: &[u8], out: &mut [u8])
     requires { ⌜ outputRoom ≤ length (now out) ⌝ }
 {

@@ -1,5 +1,5 @@
 -- The invariant: the digits that are left, written now, make what all make at the start. The measure is their count.
-use Prim.Native.Nat.{_-_, _≤_}
+use Prim.Native.Nat.{_≤_}
 use borrow.Author.Needs.{needs}
 use lib.ListN.{length, length-set}
 use lib.Seq.{sets}

@@ -51,4 +51,5 @@ play-accepted-spec =
     (λ c. c .before .loop .inv .4)
     (λ c.
     let e : c .before .loop .i ≡ length (c .before .before .before .before .before .before .before .args .script .now) / 8 = omega (arith, c .loop-test .left, c .before .loop .inv .0) in
-    playing-ends _ _ _ _ _ _ _ _ (rw e at (c .before .loop .inv .1))))
+    let a = c .before .before .before .before .before .before .before .args in
+    playing-ends (a .g) (a .sram .now) (state (a .d) (a .one .now) (a .two .now)) (a .script .now) (a .out .now) (state (c .before .loop .device) (c .before .loop .one) (c .before .loop .two)) (c .before .loop .out) (c .before .loop .bytes) (rw e at (c .before .loop .inv .1))))

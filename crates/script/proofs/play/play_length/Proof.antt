@@ -3,12 +3,14 @@ use borrow.Author.Needs.{needs}
 use borrow.Author.Tests.{not-true}
 use mathlib.Core.Path.{sym, _∙_}
 use Rattle.geometry.proofs.DeclineLaws.{went-on}
-use Rattle.script.specs.Play.{playLengthOf}
+use Rattle.machine.specs.Machine.{state}
+use Rattle.script.specs.Play.{playOf, playLengthOf}
+use Rattle.script.proofs.PlayLaws.{length-accepted}
 use Rattle.script.proofs.play.play_length.Statement.{statement}
 use Rattle.script.proofs.play.play_length.Tie as tie
 
 pub play-length-spec : {M : Type 1} → statement M
-unfolding playLengthOf
+unfolding playLengthOf playOf
 play-length-spec =
     tie.close
     (tie.spec
@@ -16,4 +18,6 @@ play-length-spec =
     (λ c κs. search needs)
     (λ c. rw (← c .before .before .play-decline .ensures, sym (c .before .is-accepted .ensures) ∙ not-true _ (c .if1 .taken)))
     (λ c κs. search needs)
-    (λ c. rw (went-on (c .before .before .before .play-decline .ensures) (c .before .before .is-accepted .ensures) (c .before .if1 .left), c .lines-length .ensures)))
+    (λ c.
+    let a = c .before .before .before .before .before .before .before .before .args in
+    rw (length-accepted (a .g) (a .sram .now) (state (a .d) (a .one .now) (a .two .now)) (a .script .now) (went-on (c .before .before .before .play-decline .ensures) (c .before .before .is-accepted .ensures) (c .before .if1 .left)), c .lines-length .ensures)))
