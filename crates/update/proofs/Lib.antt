@@ -1,2 +1,10 @@
+pub mod WordLaws
 pub mod TargetLaws
 pub mod HeadLaws
+pub mod StoringLaws
+pub mod PlaceLaws
+pub mod TurnLaws
+pub mod BankLaws
+pub mod Phases
+pub mod NextLaws
+pub mod PrologueTurns
