@@ -8,3 +8,4 @@ pub mod BankLaws
 pub mod Phases
 pub mod NextLaws
 pub mod PrologueTurns
+pub mod PageTurns
