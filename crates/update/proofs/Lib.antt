@@ -9,3 +9,4 @@ pub mod Phases
 pub mod NextLaws
 pub mod PrologueTurns
 pub mod PageTurns
+pub mod QuadTurns
