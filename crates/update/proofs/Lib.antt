@@ -10,3 +10,4 @@ pub mod NextLaws
 pub mod PrologueTurns
 pub mod PageTurns
 pub mod QuadTurns
+pub mod StandsLaws

@@ -26,13 +26,14 @@ use Rattle.access.proofs.AcceptedLaws.{AtRest}
 use Rattle.flash.specs.declared.effect.Effect.{Effect}
 use Rattle.flash.specs.Effect.{effect, effectOf}
 use Rattle.flash.specs.Step.{After, after, stepDeclineOf, advanceOf, stepAcceptedOf, stepOf}
-use Rattle.machine.specs.Machine.{State, state, left, Sound}
+use Rattle.machine.specs.Machine.{Operation, State, state, left, Sound}
 use Rattle.machine.proofs.StoreEquations.{store-accepted}
-use Rattle.machine.proofs.MachineLaws.{store-answers}
+use Rattle.machine.proofs.StoreLaws.{store-possible}
+use Rattle.machine.proofs.MachineLaws.{store-answers, run-sound}
 use Rattle.update.specs.declared.actions.Action.{Action}
 use Rattle.update.specs.declared.actions.Action.the-variants.{Store, Step}
 use Rattle.update.specs.Turn.{nextActionOf, actionDeclineOf, performOf}
-use Rattle.update.proofs.StoringLaws.{none, next-store}
+use Rattle.update.proofs.StoringLaws.{Fit}
 use Rattle.update.proofs.PlaceLaws.{storeOfAccess}
 use Rattle.update.proofs.Phases.{placed, Fixed, Phase}
 
@@ -44,27 +45,35 @@ module _ (g : Geometry) (image : List ℕ) (b : Bool) (old : List ℕ) where
     pub device : Device
     pub bank : List ℕ
     pub leaves : left (performOf g (placed b d old new) sram (nextActionOf g (placed b d old new) image place)) ≡ placed b device old bank
+    pub sound : Sound g (left (performOf g (placed b d old new) sram (nextActionOf g (placed b d old new) image place)))
     pub phase : Phase g image b old device bank (suc place)
 
   -- a store
-  pub goes-store : (d : Device) (new : List ℕ) (place : ℕ) (sram : List ℕ) → AtRest g d → (a : Access) → hasFormOf (a .register) (a .form) ≡ true
+  pub goes-store : (d : Device) (new : List ℕ) (place : ℕ) (sram : List ℕ) → Sound g (placed b d old new) → AtRest g d → (a : Access) → Fit a
       → nextActionOf g (placed b d old new) image place ≡ storeOfAccess a
       → Phase g image b old (storeOf g d (a .register) (a .form) (a .value) .device) new (suc place) → Goes d new place sram
-  goes-store d new place sram rest a ok action phase =
+  goes-store d new place sram sound rest a (ok, word) action phase =
       record {
         allowed = rw (action, rest .idle);
         answer = rw action (store-answers g d (a .register) (a .form) (a .value) (store-accepted g d rest (a .register) (a .form) ok));
         device = storeOf g d (a .register) (a .form) (a .value) .device;
         bank = new;
         leaves = rw action;
+        sound =
+            rw action
+            (record {
+              possible = store-possible g d (a .register) (a .form) (a .value) word (store-accepted g d rest (a .register) (a .form) ok);
+              first = sound .first;
+              other = sound .other;
+            });
         phase = phase;
       }
 
   -- a step that writes a quad of the new bank
-  placed-put : (d e : Device) (new : List ℕ) (quad : ℕ) (words : List ℕ)
+  placed-put : (d : Device) (new : List ℕ) (quad : ℕ) (words : List ℕ)
       → left (stepAcceptedOf g d (pick b new old) (pick b old new) (effect false true (not b) quad words))
       ≡ placed b (advanceOf g d false .device) old (putQuad new quad words)
-  placed-put d e new quad words = go b
+  placed-put d new quad words = go b
     where
       go : (t : Bool) → left (stepAcceptedOf g d (pick t new old) (pick t old new) (effect false true (not t) quad words))
           ≡ placed t (advanceOf g d false .device) old (putQuad new quad words)
@@ -82,7 +91,8 @@ module _ (g : Geometry) (image : List ℕ) (b : Bool) (old : List ℕ) where
         answer = rw (action, opened, on);
         device = advanceOf g d false .device;
         bank = putQuad new quad words;
-        leaves = rw (action, opened, on, writes) (placed-put d d new quad words);
+        leaves = rw (action, opened, on, writes) (placed-put d new quad words);
+        sound = rw action (run-sound g (placed b d old new) sound (Operation.step sram ∷ []) (tt, tt));
         phase = phase;
       }
     where

@@ -93,15 +93,18 @@ module _ (g : Geometry) (image : List ℕ) (b : Bool) (old : List ℕ) (fixed : 
   ok : InRange g
   ok = in-range g (fixed .listed)
 
-  page-forms : (p : ℕ) → Forms (pageStores g p)
+  page-word : (p : ℕ) → p < pagesOf g → upperAddressOf g (p * pageQuadsOf g) < 2 ^ 32
+  page-word p l = address-word g ok (p * pageQuadsOf g) (mul-lt-mul-of-pos-right l (omega (arith, ok .q-low)))
+
+  page-forms : (p : ℕ) → p < pagesOf g → Forms (pageStores g p)
   unfolding hasFormOf
-  page-forms p = (refl, (refl, (refl, (refl, (refl, (refl, (refl, tt)))))))
+  page-forms p l =
+      ((refl, page-word p l), ((refl, lit< tt), ((refl, lit< tt), ((refl, lit< tt), ((refl, lit< tt), ((refl, lit< tt), ((refl, lit< tt), tt)))))))
 
   page-quiet : (p : ℕ) → p < pagesOf g → NoLaunches (take 6 (pageStores g p))
   unfolding hasFormOf
   page-quiet p l =
-      let word = address-word g ok (p * pageQuadsOf g) (mul-lt-mul-of-pos-right l (omega (arith, ok .q-low))) in
-      (quiet-plain 2 (upperAddressOf g (p * pageQuadsOf g)) refl refl word, (quiet-op 4 refl (lit< tt), (quiet-set, quiet-keys)))
+      (quiet-plain 2 (upperAddressOf g (p * pageQuadsOf g)) refl refl (page-word p l), (quiet-op 4 refl (lit< tt), (quiet-set, quiet-keys)))
 
   -- a blank quad leaves the new bank losing
   erase-loses : (new : List ℕ) → length new ≡ bankWordsOf g → (j : ℕ) → Losing g image b old new → Losing g image b old (putQuad new j blankQuad)
@@ -112,12 +115,12 @@ module _ (g : Geometry) (image : List ℕ) (b : Bool) (old : List ℕ) (fixed : 
       go (yes e) = clash-loses b (wordAt old (sequenceIndexOf g)) _ (fixed .valid) (rw (e, same-word g ok new allOnes allOnes allOnes allOnes long) erased-clash)
       go (no n) = rw (other-word g ok new j blankQuad n) (losing .loses)
 
-  module _ (d : Device) (new : List ℕ) (place : ℕ) (sram : List ℕ) where
+  module _ (d : Device) (new : List ℕ) (place : ℕ) (sram : List ℕ) (sound : Sound g (placed b d old new)) where
     pub page-stores-go : PageStores g image b old d new place → Goes g image b old d new place sram
     page-stores-go c =
-        goes-store g image b old d new place sram
+        goes-store g image b old d new place sram sound
         (rw (c .device) (prefix-rest g (c .page .from) (c .page .between .rest) stores 6 (c .count) (omega (arith, c .few)) (page-quiet p (page-below g ok (c .i) (c .page .below)))))
-        (getD stores (c .count) none) (form-at stores (page-forms p) (c .count) (c .few))
+        (getD stores (c .count) none) (form-at stores (page-forms p (page-below g ok (c .i) (c .page .below))) (c .count) (c .few))
         (rw (c .here) (page-store g image (lowerWordOf g (placed b d old new)) (c .i) (c .count) (c .page .below) (c .few)))
         (go (eq-or-lt-of-le (c .few)))
       where
@@ -155,130 +158,129 @@ module _ (g : Geometry) (image : List ℕ) (b : Bool) (old : List ℕ) (fixed : 
             })
         go (inr l) = in-page-stores (record { i = c .i; page = c .page; count = suc (c .count); few = l; here = omega (arith, c .here); device = next })
 
-    module _ (sound : Sound g (placed b d old new)) where
-      new-long : length new ≡ bankWordsOf g
-      new-long = go b (sound .first) (sound .other)
-        where
-          go : (t : Bool) → length (pick t new old) ≡ bankWordsOf g → length (pick t old new) ≡ bankWordsOf g → length new ≡ bankWordsOf g
-          go true x y = x
-          go false x y = y
+    new-long : length new ≡ bankWordsOf g
+    new-long = go b (sound .first) (sound .other)
+      where
+        go : (t : Bool) → length (pick t new old) ≡ bankWordsOf g → length (pick t old new) ≡ bankWordsOf g → length new ≡ bankWordsOf g
+        go true x y = x
+        go false x y = y
 
-      pub page-steps-go : length sram ≤ 16384 → PageSteps g image b old d new place → Goes g image b old d new place sram
-      unfolding advanceOf lengthOf
-      page-steps-go short c =
-          goes-step g image b old d new place sram (fixed .listed) sound short (rw (c .device) (run-on b))
-          (rw (c .here) (page-step g image (lowerWordOf g (placed b d old new)) (c .i) (c .count) (c .page .below) (c .few)))
-          quad blankQuad writes (go (ℕ-discrete (c .count + 1) (pageQuadsOf g)))
-        where
-          p : ℕ
-          p = erasedPageOf g (c .i)
+    pub page-steps-go : length sram ≤ 16384 → PageSteps g image b old d new place → Goes g image b old d new place sram
+    unfolding advanceOf lengthOf
+    page-steps-go short c =
+        goes-step g image b old d new place sram (fixed .listed) sound short (rw (c .device) (run-on b))
+        (rw (c .here) (page-step g image (lowerWordOf g (placed b d old new)) (c .i) (c .count) (c .page .below) (c .few)))
+        quad blankQuad writes (go (ℕ-discrete (c .count + 1) (pageQuadsOf g)))
+      where
+        p : ℕ
+        p = erasedPageOf g (c .i)
 
-          quad : ℕ
-          quad = erasedPageOf g (c .i) * pageQuadsOf g + c .count
+        quad : ℕ
+        quad = erasedPageOf g (c .i) * pageQuadsOf g + c .count
 
-          e : Device
-          e = pageDevice g image b old (c .page .from) (c .i) (runCon b 4) (c .count)
+        e : Device
+        e = pageDevice g image b old (c .page .from) (c .i) (runCon b 4) (c .count)
 
-          writes : effectOf g d (pick b new old) (pick b old new) sram ≡ effect false true (not b) quad blankQuad
-          writes =
-              rw (c .device)
-              (erase-effect g ok e (c .page .between .free) (run-program b ∙ sym (run-boot b)) (pick b new old) (pick b old new) sram p (c .count)
-              (page-below g ok (c .i) (c .page .below)) (c .few) (run-op b) refl refl
-              ∙ ap (λ (t : Bool). effect false true (not t) (erasedPageOf g (c .i) * pageQuadsOf g + c .count) blankQuad) (run-boot b))
+        writes : effectOf g d (pick b new old) (pick b old new) sram ≡ effect false true (not b) quad blankQuad
+        writes =
+            rw (c .device)
+            (erase-effect g ok e (c .page .between .free) (run-program b ∙ sym (run-boot b)) (pick b new old) (pick b old new) sram p (c .count)
+            (page-below g ok (c .i) (c .page .below)) (c .few) (run-op b) refl refl
+            ∙ ap (λ (t : Bool). effect false true (not t) (erasedPageOf g (c .i) * pageQuadsOf g + c .count) blankQuad) (run-boot b))
 
-          index : erasedQuadOf g (c .i * pageQuadsOf g + c .count) ≡ erasedPageOf g (c .i) * pageQuadsOf g + c .count
-          index = page-quad g ok (c .i) (c .count) (c .few)
+        index : erasedQuadOf g (c .i * pageQuadsOf g + c .count) ≡ erasedPageOf g (c .i) * pageQuadsOf g + c .count
+        index = page-quad g ok (c .i) (c .count) (c .few)
 
-          erased : Erased g (putQuad new (erasedPageOf g (c .i) * pageQuadsOf g + c .count) blankQuad) (suc (c .i * pageQuadsOf g + c .count))
-          erased = rw index at (erased-next g ok new new-long (c .i * pageQuadsOf g + c .count) (digits-lt (c .page .below) (c .few)) (c .page .erased))
+        erased : Erased g (putQuad new (erasedPageOf g (c .i) * pageQuadsOf g + c .count) blankQuad) (suc (c .i * pageQuadsOf g + c .count))
+        erased = rw index at (erased-next g ok new new-long (c .i * pageQuadsOf g + c .count) (digits-lt (c .page .below) (c .few)) (c .page .erased))
 
-          losing : Losing g image b old (putQuad new (erasedPageOf g (c .i) * pageQuadsOf g + c .count) blankQuad)
-          losing = erase-loses new new-long (erasedPageOf g (c .i) * pageQuadsOf g + c .count) (c .page .losing)
+        losing : Losing g image b old (putQuad new (erasedPageOf g (c .i) * pageQuadsOf g + c .count) blankQuad)
+        losing = erase-loses new new-long (erasedPageOf g (c .i) * pageQuadsOf g + c .count) (c .page .losing)
 
-          page : (done : ℕ) → done ≡ suc (c .i * pageQuadsOf g + c .count) → Page g image b old (putQuad new (erasedPageOf g (c .i) * pageQuadsOf g + c .count) blankQuad) (c .i) done
-          page done h = record { from = c .page .from; between = c .page .between; losing = losing; below = c .page .below; erased = rw h erased }
+        page : (done : ℕ) → done ≡ suc (c .i * pageQuadsOf g + c .count) → Page g image b old (putQuad new (erasedPageOf g (c .i) * pageQuadsOf g + c .count) blankQuad) (c .i) done
+        page done h = record { from = c .page .from; between = c .page .between; losing = losing; below = c .page .below; erased = rw h erased }
 
-          goes-on : (t : Bool) → eqb (c .count + 1) (8 * g .q) ≡ t
-              → advanceOf g d false .device
-              ≡ pick t (pageDevice g image b old (c .page .from) (c .i) (enabledCon b 4) 0) (pageDevice g image b old (c .page .from) (c .i) (runCon b 4) (c .count + 1))
-          goes-on true h = rw (c .device, run-op b, h, run-ends b)
-          goes-on false h = rw (c .device, run-op b, h)
+        goes-on : (t : Bool) → eqb (c .count + 1) (8 * g .q) ≡ t
+            → advanceOf g d false .device
+            ≡ pick t (pageDevice g image b old (c .page .from) (c .i) (enabledCon b 4) 0) (pageDevice g image b old (c .page .from) (c .i) (runCon b 4) (c .count + 1))
+        goes-on true h = rw (c .device, run-op b, h, run-ends b)
+        goes-on false h = rw (c .device, run-op b, h)
 
-          go : Dec (c .count + 1 ≡ pageQuadsOf g) → Phase g image b old (advanceOf g d false .device) (putQuad new quad blankQuad) (suc place)
-          go (yes h) =
-              at-page-end
-              (record {
-                i = c .i;
-                page = page (suc (c .i) * pageQuadsOf g) (omega (arith, h));
-                here = omega (arith, c .here, h);
-                device = goes-on true (eq-eqb _ _ h);
-              })
-          go (no h) =
-              in-page-steps
-              (record {
-                i = c .i;
-                count = c .count + 1;
-                page = page (c .i * pageQuadsOf g + (c .count + 1)) (omega arith);
-                few = omega (arith, c .few, h);
-                here = omega (arith, c .here);
-                device = goes-on false (ne-eqb _ _ h);
-              })
+        go : Dec (c .count + 1 ≡ pageQuadsOf g) → Phase g image b old (advanceOf g d false .device) (putQuad new quad blankQuad) (suc place)
+        go (yes h) =
+            at-page-end
+            (record {
+              i = c .i;
+              page = page (suc (c .i) * pageQuadsOf g) (omega (arith, h));
+              here = omega (arith, c .here, h);
+              device = goes-on true (eq-eqb _ _ h);
+            })
+        go (no h) =
+            in-page-steps
+            (record {
+              i = c .i;
+              count = c .count + 1;
+              page = page (c .i * pageQuadsOf g + (c .count + 1)) (omega arith);
+              few = omega (arith, c .few, h);
+              here = omega (arith, c .here);
+              device = goes-on false (ne-eqb _ _ h);
+            })
 
-      pub page-end-goes : PageEnd g image b old d new place → Goes g image b old d new place sram
-      unfolding hasFormOf
-      page-end-goes c =
-          goes-store g image b old d new place sram rest (access 0 1 0x4000) refl
-          (rw (c .here) (page-end g image (lowerWordOf g (placed b d old new)) (c .i) (c .page .below)))
-          (go (eq-or-lt-of-le (c .page .below)))
-        where
-          from : Device
-          from = c .page .from
+    pub page-end-goes : PageEnd g image b old d new place → Goes g image b old d new place sram
+    unfolding hasFormOf
+    page-end-goes c =
+        goes-store g image b old d new place sram sound rest (access 0 1 0x4000) (refl, lit< tt)
+        (rw (c .here) (page-end g image (lowerWordOf g (placed b d old new)) (c .i) (c .page .below)))
+        (go (eq-or-lt-of-le (c .page .below)))
+      where
+        from : Device
+        from = c .page .from
 
-          rest : AtRest g d
-          rest = record { listed = fixed .listed; range = ok; possible = sound .possible; idle = rw (c .device) (end-idle b) }
+        rest : AtRest g d
+        rest = record { listed = fixed .listed; range = ok; possible = sound .possible; idle = rw (c .device) (end-idle b) }
 
-          ended : storeOf g d 0 1 0x4000 .device ≡ pageDevice g image b old (c .page .from) (c .i) (restCon b 4) 0
-          ended = ap (λ s. s .device) (clear-wren g d rest) ∙ rw (c .device, end-rests b)
+        ended : storeOf g d 0 1 0x4000 .device ≡ pageDevice g image b old (c .page .from) (c .i) (restCon b 4) 0
+        ended = ap (λ s. s .device) (clear-wren g d rest) ∙ rw (c .device, end-rests b)
 
-          between : Between g b (storeOf g d 0 1 0x4000 .device)
-          between =
-              record {
-                rest = no-launch-rests g d rest (access 0 1 0x4000) quiet-clear;
-                shut = rw ended;
-                wren = rw ended (rest-codes b .0);
-                page-op = rw ended (rest-codes b .1);
-                quad-op = rw ended (rest-codes b .2);
-                boot = rw ended (rest-codes b .3);
-                program = rw ended (rest-codes b .4);
-                free = rw ended (c .page .between .free);
-                reach = rw ended (c .page .between .reach);
-                quad = rw ended (c .page .between .quad);
-              }
+        between : Between g b (storeOf g d 0 1 0x4000 .device)
+        between =
+            record {
+              rest = no-launch-rests g d rest (access 0 1 0x4000) quiet-clear;
+              shut = rw ended;
+              wren = rw ended (rest-codes b .0);
+              page-op = rw ended (rest-codes b .1);
+              quad-op = rw ended (rest-codes b .2);
+              boot = rw ended (rest-codes b .3);
+              program = rw ended (rest-codes b .4);
+              free = rw ended (c .page .between .free);
+              reach = rw ended (c .page .between .reach);
+              quad = rw ended (c .page .between .quad);
+            }
 
-          go : (suc (c .i) ≡ pagesOf g) ⊎ (suc (c .i) < pagesOf g) → Phase g image b old (storeOf g d 0 1 0x4000 .device) new (suc place)
-          go (inl e) =
-              in-quad-stores
-              (record {
-                i = 0;
-                quad =
-                    record {
-                      from = storeOf g d 0 1 0x4000 .device;
-                      between = between;
-                      below = some-quads g ok;
-                      programmed = programmed-none g ok new new-long image (wordAt old (sequenceIndexOf g)) (rw (ap (λ (n : ℕ). n * pageQuadsOf g) e) at (c .page .erased));
-                    };
-                count = 0;
-                few = omega arith;
-                here = omega (arith, c .here, ap (λ (n : ℕ). n * pageActions g) e);
-                device = refl;
-              })
-          go (inr l) =
-              in-page-stores
-              (record {
-                i = suc (c .i);
-                page = record { from = storeOf g d 0 1 0x4000 .device; between = between; losing = c .page .losing; below = l; erased = c .page .erased };
-                count = 0;
-                few = omega arith;
-                here = omega (arith, c .here);
-                device = refl;
-              })
+        go : (suc (c .i) ≡ pagesOf g) ⊎ (suc (c .i) < pagesOf g) → Phase g image b old (storeOf g d 0 1 0x4000 .device) new (suc place)
+        go (inl e) =
+            in-quad-stores
+            (record {
+              i = 0;
+              quad =
+                  record {
+                    from = storeOf g d 0 1 0x4000 .device;
+                    between = between;
+                    below = some-quads g ok;
+                    programmed = programmed-none g ok new new-long image (wordAt old (sequenceIndexOf g)) (rw (ap (λ (n : ℕ). n * pageQuadsOf g) e) at (c .page .erased));
+                  };
+              count = 0;
+              few = omega arith;
+              here = omega (arith, c .here, ap (λ (n : ℕ). n * pageActions g) e);
+              device = refl;
+            })
+        go (inr l) =
+            in-page-stores
+            (record {
+              i = suc (c .i);
+              page = record { from = storeOf g d 0 1 0x4000 .device; between = between; losing = c .page .losing; below = l; erased = c .page .erased };
+              count = 0;
+              few = omega arith;
+              here = omega (arith, c .here);
+              device = refl;
+            })

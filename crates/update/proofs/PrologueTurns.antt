@@ -16,6 +16,7 @@ use Rattle.device.specs.declared.record.Device.{Device}
 use Rattle.access.specs.Store.{hasFormOf}
 use Rattle.access.specs.StartUp.{Access, access, storesOf}
 use Rattle.access.proofs.AcceptedLaws.{AtRest}
+use Rattle.machine.specs.Machine.{Sound}
 use Rattle.machine.proofs.RestLaws.{NoLaunches}
 use Rattle.update.specs.Actions.{clearingStores, unprotectingStores, pageActions}
 use Rattle.update.specs.Start.{lowerWordOf}
@@ -28,22 +29,24 @@ use Rattle.update.proofs.NextLaws.{Goes, goes-store}
 
 clearing-forms : Forms clearingStores
 unfolding hasFormOf
-clearing-forms = (refl, (refl, (refl, (refl, (refl, (refl, (refl, tt)))))))
+clearing-forms =
+    ((refl, lit< tt), ((refl, lit< tt), ((refl, lit< tt), ((refl, lit< tt), ((refl, lit< tt), ((refl, lit< tt), ((refl, lit< tt), tt)))))))
 
 clearing-quiet : NoLaunches (take 6 clearingStores)
 clearing-quiet = (quiet-clear, (quiet-op 0 refl (lit< tt), (quiet-set, quiet-keys)))
 
 unprotecting-forms : Forms unprotectingStores
 unfolding hasFormOf
-unprotecting-forms = (refl, (refl, (refl, (refl, (refl, tt)))))
+unprotecting-forms = ((refl, lit< tt), ((refl, lit< tt), ((refl, lit< tt), ((refl, lit< tt), ((refl, lit< tt), tt)))))
 
 unprotecting-quiet : NoLaunches (take 4 unprotectingStores)
 unprotecting-quiet = (quiet-clear, quiet-keys)
 
-module _ (g : Geometry) (image : List ℕ) (b : Bool) (old : List ℕ) (fixed : Fixed g image old) (d : Device) (new : List ℕ) (place : ℕ) (sram : List ℕ) where
+module _ (g : Geometry) (image : List ℕ) (b : Bool) (old : List ℕ) (fixed : Fixed g image old) (d : Device) (new : List ℕ) (place : ℕ) (sram : List ℕ)
+    (sound : Sound g (placed b d old new)) where
   pub clearing-goes : Clearing g image b old d new place → Goes g image b old d new place sram
   clearing-goes c =
-      goes-store g image b old d new place sram
+      goes-store g image b old d new place sram sound
       (rw (c .device) (prefix-rest g (c .first) (c .begins .rest) clearingStores 6 place (omega (arith, c .below)) clearing-quiet))
       (getD clearingStores place none) (form-at clearingStores clearing-forms place (c .below))
       (clearing-action g image (lowerWordOf g (placed b d old new)) place (c .below))
@@ -69,7 +72,7 @@ module _ (g : Geometry) (image : List ℕ) (b : Bool) (old : List ℕ) (fixed : 
 
   pub unprotecting-goes : Unprotecting g image b old d new place → Goes g image b old d new place sram
   unprotecting-goes c =
-      goes-store g image b old d new place sram
+      goes-store g image b old d new place sram sound
       (rw (c .device) (prefix-rest g (clearedDevice b (c .first)) (cleared-rest g b (c .first) (c .begins .rest) (c .begins .boot) (c .begins .program)) unprotectingStores 4 (c .count) (omega (arith, c .below)) unprotecting-quiet))
       (getD unprotectingStores (c .count) none) (form-at unprotectingStores unprotecting-forms (c .count) (c .below))
       (rw (c .here) (unprotecting-action g image (lowerWordOf g (placed b d old new)) (c .count) (c .below)))

@@ -120,9 +120,16 @@ module _ (g : Geometry) (image : List ℕ) (b : Bool) (old : List ℕ) (fixed : 
       go true = refl
       go false = refl
 
-  quad-forms : (j : ℕ) (words : List ℕ) → Forms (quadStores g j words)
+  quad-forms : (j : ℕ) → j < bankQuadsOf g → (words : List ℕ) → ((k : ℕ) → k < 4 → wordAt words k < 2 ^ 32) → Forms (quadStores g j words)
   unfolding hasFormOf
-  quad-forms j words = (refl, (refl, (refl, (refl, (refl, (refl, (refl, (refl, (refl, (refl, (refl, tt)))))))))))
+  quad-forms j l words each = (
+    (refl, address-word g ok j l),
+    ((refl, each 0 (omega arith)),
+    ((refl, each 1 (omega arith)),
+    ((refl, each 2 (omega arith)),
+    ((refl, each 3 (omega arith)),
+    ((refl, lit< tt), ((refl, lit< tt), ((refl, lit< tt), ((refl, lit< tt), ((refl, lit< tt), ((refl, lit< tt), tt)))))))))),
+  )
 
   quad-shut : (j : ℕ) (words : List ℕ) → Shut true (take 10 (quadStores g j words))
   quad-shut j words = (refl, (refl, (refl, (refl, (refl, (refl, (refl, (refl, (refl, (refl, tt))))))))))
@@ -138,12 +145,12 @@ module _ (g : Geometry) (image : List ℕ) (b : Bool) (old : List ℕ) (fixed : 
     (quiet-op 2 refl (lit< tt), (quiet-set, quiet-keys)))))),
   )
 
-  module _ (d : Device) (new : List ℕ) (place : ℕ) (sram : List ℕ) where
+  module _ (d : Device) (new : List ℕ) (place : ℕ) (sram : List ℕ) (sound : Sound g (placed b d old new)) where
     pub quad-stores-go : QuadStores g image b old d new place → Goes g image b old d new place sram
     quad-stores-go c =
-        goes-store g image b old d new place sram
+        goes-store g image b old d new place sram sound
         (rw (c .device) (prefix-rest g from (c .quad .between .rest) stores 10 (c .count) (omega (arith, c .few)) quiet))
-        (getD stores (c .count) none) (form-at stores (quad-forms j words) (c .count) (c .few))
+        (getD stores (c .count) none) (form-at stores (quad-forms j below words each) (c .count) (c .few))
         (rw (c .here, lower-word d new swap) (quad-store g image (wordAt old (sequenceIndexOf g)) (c .i) (c .count) (c .few)))
         (go (eq-or-lt-of-le (c .few)))
       where
@@ -196,99 +203,98 @@ module _ (g : Geometry) (image : List ℕ) (b : Bool) (old : List ℕ) (fixed : 
             })
         go (inr l) = in-quad-stores (record { i = c .i; quad = c .quad; count = suc (c .count); few = l; here = omega (arith, c .here); device = next })
 
-    module _ (sound : Sound g (placed b d old new)) where
-      new-long : length new ≡ bankWordsOf g
-      new-long = go b (sound .first) (sound .other)
-        where
-          go : (t : Bool) → length (pick t new old) ≡ bankWordsOf g → length (pick t old new) ≡ bankWordsOf g → length new ≡ bankWordsOf g
-          go true x y = x
-          go false x y = y
+    new-long : length new ≡ bankWordsOf g
+    new-long = go b (sound .first) (sound .other)
+      where
+        go : (t : Bool) → length (pick t new old) ≡ bankWordsOf g → length (pick t old new) ≡ bankWordsOf g → length new ≡ bankWordsOf g
+        go true x y = x
+        go false x y = y
 
-      -- the quad that is programmed was blank, so the step writes it
-      pub quad-writes : (c : QuadStep g image b old d new place)
-          → effectOf g d (pick b new old) (pick b old new) sram ≡ effect false true (not b) (programmedQuadOf g (c .i)) (newWords g image b old (c .i))
-      quad-writes c =
-          rw (c .device)
-          (program-effect g ok e (c .quad .between .free) (quad-program b ∙ sym (quad-boot b)) (pick b new old) (pick b old new) sram (programmedQuadOf g (c .i))
-          (quad-below g ok (c .i) (c .quad .below)) (quad-op b) refl refl (rw (quad-boot b) (blank b))
-          ∙ ap (λ (t : Bool). effect false true (not t) (programmedQuadOf g (c .i)) (newWords g image b old (c .i))) (quad-boot b))
-        where
-          e : Device
-          e = quadDevice g image b old (c .quad .from) (c .i) (runCon b 2)
+    -- the quad that is programmed was blank, so the step writes it
+    pub quad-writes : (c : QuadStep g image b old d new place)
+        → effectOf g d (pick b new old) (pick b old new) sram ≡ effect false true (not b) (programmedQuadOf g (c .i)) (newWords g image b old (c .i))
+    quad-writes c =
+        rw (c .device)
+        (program-effect g ok e (c .quad .between .free) (quad-program b ∙ sym (quad-boot b)) (pick b new old) (pick b old new) sram (programmedQuadOf g (c .i))
+        (quad-below g ok (c .i) (c .quad .below)) (quad-op b) refl refl (rw (quad-boot b) (blank b))
+        ∙ ap (λ (t : Bool). effect false true (not t) (programmedQuadOf g (c .i)) (newWords g image b old (c .i))) (quad-boot b))
+      where
+        e : Device
+        e = quadDevice g image b old (c .quad .from) (c .i) (runCon b 2)
 
-          blank : (t : Bool) → quadAt (pick (not t) (pick t old new) (pick t new old)) (programmedQuadOf g (c .i)) ≡ blankQuad
-          blank true = c .quad .programmed .blank (c .i) (omega arith) (c .quad .below)
-          blank false = c .quad .programmed .blank (c .i) (omega arith) (c .quad .below)
+        blank : (t : Bool) → quadAt (pick (not t) (pick t old new) (pick t new old)) (programmedQuadOf g (c .i)) ≡ blankQuad
+        blank true = c .quad .programmed .blank (c .i) (omega arith) (c .quad .below)
+        blank false = c .quad .programmed .blank (c .i) (omega arith) (c .quad .below)
 
-      pub quad-step-goes : length sram ≤ 16384 → QuadStep g image b old d new place → Goes g image b old d new place sram
-      unfolding advanceOf lengthOf
-      quad-step-goes short c =
-          goes-step g image b old d new place sram (fixed .listed) sound short (rw (c .device) (quad-on b))
-          (rw (c .here) (quad-step g image (lowerWordOf g (placed b d old new)) (c .i)))
-          (programmedQuadOf g (c .i)) (newWords g image b old (c .i)) (quad-writes c)
-          (at-quad-end
-          (record {
-            i = c .i;
-            quad =
-                record {
-                  from = c .quad .from;
-                  between = c .quad .between;
-                  below = c .quad .below;
-                  programmed = programmed-next g ok new new-long image (wordAt old (sequenceIndexOf g)) (c .i) (c .quad .below) (c .quad .programmed);
-                };
-            here = omega (arith, c .here);
-            device = rw (c .device, quad-op b, quad-ends b);
-          }))
-
-      pub quad-end-goes : QuadEnd g image b old d new place → Goes g image b old d new place sram
-      unfolding hasFormOf
-      quad-end-goes c =
-          goes-store g image b old d new place sram rest (access 0 1 0x4000) refl
-          (rw (c .here) (quad-end g image (lowerWordOf g (placed b d old new)) (c .i)))
-          (go (eq-or-lt-of-le (c .quad .below)))
-        where
-          rest : AtRest g d
-          rest = record { listed = fixed .listed; range = ok; possible = sound .possible; idle = rw (c .device) (end-idle b) }
-
-          ended : storeOf g d 0 1 0x4000 .device ≡ quadDevice g image b old (c .quad .from) (c .i) (restCon b 2)
-          ended = ap (λ s. s .device) (clear-wren g d rest) ∙ rw (c .device, end-rests b)
-
-          after : AtRest g (storeOf g d 0 1 0x4000 .device)
-          after = no-launch-rests g d rest (access 0 1 0x4000) quiet-clear
-
-          four : length (newWords g image b old (c .i)) ≡ 4
-          four = ap length (new-four g image (wordAt old (sequenceIndexOf g)) (programmedQuadOf g (c .i)))
-
-          between : Between g b (storeOf g d 0 1 0x4000 .device)
-          between =
+    pub quad-step-goes : length sram ≤ 16384 → QuadStep g image b old d new place → Goes g image b old d new place sram
+    unfolding advanceOf lengthOf
+    quad-step-goes short c =
+        goes-step g image b old d new place sram (fixed .listed) sound short (rw (c .device) (quad-on b))
+        (rw (c .here) (quad-step g image (lowerWordOf g (placed b d old new)) (c .i)))
+        (programmedQuadOf g (c .i)) (newWords g image b old (c .i)) (quad-writes c)
+        (at-quad-end
+        (record {
+          i = c .i;
+          quad =
               record {
-                rest = after;
-                shut = rw ended;
-                wren = rw ended (rest-codes b .0);
-                page-op = rw ended (rest-codes b .1);
-                quad-op = rw ended (rest-codes b .2);
-                boot = rw ended (rest-codes b .3);
-                program = rw ended (rest-codes b .4);
-                free = rw ended (c .quad .between .free);
-                reach = rw ended (c .quad .between .reach);
-                quad = rw ended four;
-              }
+                from = c .quad .from;
+                between = c .quad .between;
+                below = c .quad .below;
+                programmed = programmed-next g ok new new-long image (wordAt old (sequenceIndexOf g)) (c .i) (c .quad .below) (c .quad .programmed);
+              };
+          here = omega (arith, c .here);
+          device = rw (c .device, quad-op b, quad-ends b);
+        }))
 
-          go : (suc (c .i) ≡ bankQuadsOf g) ⊎ (suc (c .i) < bankQuadsOf g) → Phase g image b old (storeOf g d 0 1 0x4000 .device) new (suc place)
-          go (inl e) =
-              at-total
-              (record {
-                rest = after;
-                programmed = rw e at (c .quad .programmed);
-                here = omega (arith, c .here, ap (λ (n : ℕ). n * 13) e, total-place g);
-              })
-          go (inr l) =
-              in-quad-stores
-              (record {
-                i = suc (c .i);
-                quad = record { from = storeOf g d 0 1 0x4000 .device; between = between; below = l; programmed = c .quad .programmed };
-                count = 0;
-                few = omega arith;
-                here = omega (arith, c .here);
-                device = refl;
-              })
+    pub quad-end-goes : QuadEnd g image b old d new place → Goes g image b old d new place sram
+    unfolding hasFormOf
+    quad-end-goes c =
+        goes-store g image b old d new place sram sound rest (access 0 1 0x4000) (refl, lit< tt)
+        (rw (c .here) (quad-end g image (lowerWordOf g (placed b d old new)) (c .i)))
+        (go (eq-or-lt-of-le (c .quad .below)))
+      where
+        rest : AtRest g d
+        rest = record { listed = fixed .listed; range = ok; possible = sound .possible; idle = rw (c .device) (end-idle b) }
+
+        ended : storeOf g d 0 1 0x4000 .device ≡ quadDevice g image b old (c .quad .from) (c .i) (restCon b 2)
+        ended = ap (λ s. s .device) (clear-wren g d rest) ∙ rw (c .device, end-rests b)
+
+        after : AtRest g (storeOf g d 0 1 0x4000 .device)
+        after = no-launch-rests g d rest (access 0 1 0x4000) quiet-clear
+
+        four : length (newWords g image b old (c .i)) ≡ 4
+        four = ap length (new-four g image (wordAt old (sequenceIndexOf g)) (programmedQuadOf g (c .i)))
+
+        between : Between g b (storeOf g d 0 1 0x4000 .device)
+        between =
+            record {
+              rest = after;
+              shut = rw ended;
+              wren = rw ended (rest-codes b .0);
+              page-op = rw ended (rest-codes b .1);
+              quad-op = rw ended (rest-codes b .2);
+              boot = rw ended (rest-codes b .3);
+              program = rw ended (rest-codes b .4);
+              free = rw ended (c .quad .between .free);
+              reach = rw ended (c .quad .between .reach);
+              quad = rw ended four;
+            }
+
+        go : (suc (c .i) ≡ bankQuadsOf g) ⊎ (suc (c .i) < bankQuadsOf g) → Phase g image b old (storeOf g d 0 1 0x4000 .device) new (suc place)
+        go (inl e) =
+            at-total
+            (record {
+              rest = after;
+              programmed = rw e at (c .quad .programmed);
+              here = omega (arith, c .here, ap (λ (n : ℕ). n * 13) e, total-place g);
+            })
+        go (inr l) =
+            in-quad-stores
+            (record {
+              i = suc (c .i);
+              quad = record { from = storeOf g d 0 1 0x4000 .device; between = between; below = l; programmed = c .quad .programmed };
+              count = 0;
+              few = omega arith;
+              here = omega (arith, c .here);
+              device = refl;
+            })

@@ -112,12 +112,15 @@ swap-kept g d rest shut key (a ∷ l) quiet h =
     go true e = rw (key e)
     go false e = refl
 
--- each store of a list has a form of its register
+-- a store has a form of its register and brings a word of 32 bits
+abbrev pub Fit : Access → Type 0
+Fit a = (hasFormOf (a .register) (a .form) ≡ true) × (a .value < 2 ^ 32)
+
 abbrev pub Forms : List Access → Type 0
 Forms [] = Unit {0}
-Forms (a ∷ l) = (hasFormOf (a .register) (a .form) ≡ true) × Forms l
+Forms (a ∷ l) = Fit a × Forms l
 
-pub form-at : (l : List Access) → Forms l → (j : ℕ) → j < length l → hasFormOf (getD l j none .register) (getD l j none .form) ≡ true
+pub form-at : (l : List Access) → Forms l → (j : ℕ) → j < length l → Fit (getD l j none)
 form-at [] f j h = absurd (not-suc-le-zero h)
 form-at (a ∷ l) f zero h = f .0
 form-at (a ∷ l) f (suc j) h = form-at l (f .1) j (le-of-suc-le-suc h)
