@@ -169,7 +169,7 @@ module _ (g : Geometry) (ok : InRange g) where
       go (no l) = omega (arith, program-quad x (omega arith), both-parts)
 
   -- no quad is met twice
-  quad-once : (x y : ℕ) → x < bankQuadsOf g → y < bankQuadsOf g → programmedQuadOf g x ≡ programmedQuadOf g y → x ≡ y
+  pub quad-once : (x y : ℕ) → x < bankQuadsOf g → y < bankQuadsOf g → programmedQuadOf g x ≡ programmedQuadOf g y → x ≡ y
   quad-once x y h i e = go (decLe (programQuadsOf g) x) (decLe (programQuadsOf g) y)
     where
       go : Dec (programQuadsOf g ≤ x) → Dec (programQuadsOf g ≤ y) → x ≡ y

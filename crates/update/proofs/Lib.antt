@@ -1,6 +1,7 @@
 pub mod WordLaws
 pub mod TargetLaws
 pub mod HeadLaws
+pub mod RestartLaws
 pub mod StoringLaws
 pub mod PlaceLaws
 pub mod TurnLaws
@@ -11,3 +12,4 @@ pub mod PrologueTurns
 pub mod PageTurns
 pub mod QuadTurns
 pub mod StandsLaws
+pub mod CutLaws

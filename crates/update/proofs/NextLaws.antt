@@ -33,6 +33,7 @@ use Rattle.machine.proofs.MachineLaws.{store-answers, run-sound}
 use Rattle.update.specs.declared.actions.Action.{Action}
 use Rattle.update.specs.declared.actions.Action.the-variants.{Store, Step}
 use Rattle.update.specs.Turn.{nextActionOf, actionDeclineOf, performOf}
+use Rattle.update.proofs.RestartLaws.{store-quad, step-quad}
 use Rattle.update.proofs.StoringLaws.{Fit}
 use Rattle.update.proofs.PlaceLaws.{storeOfAccess}
 use Rattle.update.proofs.Phases.{placed, Fixed, Phase}
@@ -46,6 +47,7 @@ module _ (g : Geometry) (image : List ℕ) (b : Bool) (old : List ℕ) where
     pub bank : List ℕ
     pub leaves : left (performOf g (placed b d old new) sram (nextActionOf g (placed b d old new) image place)) ≡ placed b device old bank
     pub sound : Sound g (left (performOf g (placed b d old new) sram (nextActionOf g (placed b d old new) image place)))
+    pub four : length (d .nvmdata) ≡ 4 → length (device .nvmdata) ≡ 4
     pub phase : Phase g image b old device bank (suc place)
 
   -- a store
@@ -66,6 +68,7 @@ module _ (g : Geometry) (image : List ℕ) (b : Bool) (old : List ℕ) where
               first = sound .first;
               other = sound .other;
             });
+        four = λ e. store-quad g d (a .register) (a .form) (a .value) ∙ e;
         phase = phase;
       }
 
@@ -93,6 +96,7 @@ module _ (g : Geometry) (image : List ℕ) (b : Bool) (old : List ℕ) where
         bank = putQuad new quad words;
         leaves = rw (action, opened, on, writes) (placed-put d new quad words);
         sound = rw action (run-sound g (placed b d old new) sound (Operation.step sram ∷ []) (tt, tt));
+        four = λ e. step-quad g d false ∙ e;
         phase = phase;
       }
     where

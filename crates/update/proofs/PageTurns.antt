@@ -44,7 +44,7 @@ use Rattle.update.proofs.Phases.{placed, Fixed, Losing, Page, pageDevic
 use Rattle.update.proofs.Phases.Phase.{in-page-stores, in-page-steps, at-page-end, in-quad-stores}
 use Rattle.update.proofs.NextLaws.{Goes, goes-store, goes-step}
 
-blank-words : (k : ℕ) → k < 4 → wordAt blankQuad k < 2 ^ 32
+pub blank-words : (k : ℕ) → k < 4 → wordAt blankQuad k < 2 ^ 32
 blank-words zero l = lit< tt
 blank-words (suc zero) l = lit< tt
 blank-words (suc (suc zero)) l = lit< tt
@@ -56,7 +56,7 @@ pub run-on : (t : Bool) → hasOf (runCon t 4) WR ≡ true
 run-on true = refl
 run-on false = refl
 
-run-boot : (t : Bool) → hasOf (runCon t 4) BFSWAP ≡ t
+pub run-boot : (t : Bool) → hasOf (runCon t 4) BFSWAP ≡ t
 run-boot true = refl
 run-boot false = refl
 
@@ -72,7 +72,7 @@ run-ends : (t : Bool) → clearOf (runCon t 4) (WR + WRERR) ≡ enabledCon t 4
 run-ends true = refl
 run-ends false = refl
 
-end-idle : (t : Bool) → hasOf (enabledCon t 4) WR ≡ false
+pub end-idle : (t : Bool) → hasOf (enabledCon t 4) WR ≡ false
 end-idle true = refl
 end-idle false = refl
 
@@ -101,7 +101,7 @@ module _ (g : Geometry) (image : List ℕ) (b : Bool) (old : List ℕ) (fixed : 
   page-forms p l =
       ((refl, page-word p l), ((refl, lit< tt), ((refl, lit< tt), ((refl, lit< tt), ((refl, lit< tt), ((refl, lit< tt), ((refl, lit< tt), tt)))))))
 
-  page-quiet : (p : ℕ) → p < pagesOf g → NoLaunches (take 6 (pageStores g p))
+  pub page-quiet : (p : ℕ) → p < pagesOf g → NoLaunches (take 6 (pageStores g p))
   unfolding hasFormOf
   page-quiet p l =
       (quiet-plain 2 (upperAddressOf g (p * pageQuadsOf g)) refl refl (page-word p l), (quiet-op 4 refl (lit< tt), (quiet-set, quiet-keys)))
@@ -165,28 +165,24 @@ module _ (g : Geometry) (image : List ℕ) (b : Bool) (old : List ℕ) (fixed : 
         go true x y = x
         go false x y = y
 
+    -- the next quad of the page is blanked
+    pub page-writes : (c : PageSteps g image b old d new place)
+        → effectOf g d (pick b new old) (pick b old new) sram ≡ effect false true (not b) (erasedPageOf g (c .i) * pageQuadsOf g + c .count) blankQuad
+    page-writes c =
+        rw (c .device)
+        (erase-effect g ok (pageDevice g image b old (c .page .from) (c .i) (runCon b 4) (c .count)) (c .page .between .free) (run-program b ∙ sym (run-boot b))
+        (pick b new old) (pick b old new) sram (erasedPageOf g (c .i)) (c .count) (page-below g ok (c .i) (c .page .below)) (c .few) (run-op b) refl refl
+        ∙ ap (λ (t : Bool). effect false true (not t) (erasedPageOf g (c .i) * pageQuadsOf g + c .count) blankQuad) (run-boot b))
+
     pub page-steps-go : length sram ≤ 16384 → PageSteps g image b old d new place → Goes g image b old d new place sram
     unfolding advanceOf lengthOf
     page-steps-go short c =
         goes-step g image b old d new place sram (fixed .listed) sound short (rw (c .device) (run-on b))
         (rw (c .here) (page-step g image (lowerWordOf g (placed b d old new)) (c .i) (c .count) (c .page .below) (c .few)))
-        quad blankQuad writes (go (ℕ-discrete (c .count + 1) (pageQuadsOf g)))
+        quad blankQuad (page-writes c) (go (ℕ-discrete (c .count + 1) (pageQuadsOf g)))
       where
-        p : ℕ
-        p = erasedPageOf g (c .i)
-
         quad : ℕ
         quad = erasedPageOf g (c .i) * pageQuadsOf g + c .count
-
-        e : Device
-        e = pageDevice g image b old (c .page .from) (c .i) (runCon b 4) (c .count)
-
-        writes : effectOf g d (pick b new old) (pick b old new) sram ≡ effect false true (not b) quad blankQuad
-        writes =
-            rw (c .device)
-            (erase-effect g ok e (c .page .between .free) (run-program b ∙ sym (run-boot b)) (pick b new old) (pick b old new) sram p (c .count)
-            (page-below g ok (c .i) (c .page .below)) (c .few) (run-op b) refl refl
-            ∙ ap (λ (t : Bool). effect false true (not t) (erasedPageOf g (c .i) * pageQuadsOf g + c .count) blankQuad) (run-boot b))
 
         index : erasedQuadOf g (c .i * pageQuadsOf g + c .count) ≡ erasedPageOf g (c .i) * pageQuadsOf g + c .count
         index = page-quad g ok (c .i) (c .count) (c .few)
@@ -267,6 +263,7 @@ module _ (g : Geometry) (image : List ℕ) (b : Bool) (old : List ℕ) (fixed : 
                     from = storeOf g d 0 1 0x4000 .device;
                     between = between;
                     below = some-quads g ok;
+                    words = c .page .losing .words;
                     programmed = programmed-none g ok new new-long image (wordAt old (sequenceIndexOf g)) (rw (ap (λ (n : ℕ). n * pageQuadsOf g) e) at (c .page .erased));
                   };
               count = 0;

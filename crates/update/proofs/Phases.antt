@@ -111,6 +111,7 @@ module _ (g : Geometry) (image : List ℕ) (b : Bool) (old : List ℕ) where
     pub from : Device
     pub between : Between g b from
     pub below : i < bankQuadsOf g
+    pub words : Words new
     pub programmed : Programmed g image oldWord new done
 
   abbrev pub newWords : ℕ → List ℕ
@@ -162,4 +163,5 @@ module _ (g : Geometry) (image : List ℕ) (b : Bool) (old : List ℕ) where
     pub new : List ℕ
     pub state : p .state ≡ placed b device old new
     pub sound : Sound g (p .state)
+    pub quad : length (device .nvmdata) ≡ 4
     pub phase : Phase device new (p .place)

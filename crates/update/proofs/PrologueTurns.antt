@@ -32,14 +32,14 @@ unfolding hasFormOf
 clearing-forms =
     ((refl, lit< tt), ((refl, lit< tt), ((refl, lit< tt), ((refl, lit< tt), ((refl, lit< tt), ((refl, lit< tt), ((refl, lit< tt), tt)))))))
 
-clearing-quiet : NoLaunches (take 6 clearingStores)
+pub clearing-quiet : NoLaunches (take 6 clearingStores)
 clearing-quiet = (quiet-clear, (quiet-op 0 refl (lit< tt), (quiet-set, quiet-keys)))
 
 unprotecting-forms : Forms unprotectingStores
 unfolding hasFormOf
 unprotecting-forms = ((refl, lit< tt), ((refl, lit< tt), ((refl, lit< tt), ((refl, lit< tt), ((refl, lit< tt), tt)))))
 
-unprotecting-quiet : NoLaunches (take 4 unprotectingStores)
+pub unprotecting-quiet : NoLaunches (take 4 unprotectingStores)
 unprotecting-quiet = (quiet-clear, quiet-keys)
 
 module _ (g : Geometry) (image : List ℕ) (b : Bool) (old : List ℕ) (fixed : Fixed g image old) (d : Device) (new : List ℕ) (place : ℕ) (sram : List ℕ)

@@ -37,7 +37,7 @@ use Rattle.update.proofs.TargetLaws.{address-word, program-effect}
 use Rattle.update.proofs.HeadLaws.{Between, restCon, enabledCon, runCon, quiet-op, quiet-plain, quiet-set, quiet-clear, quiet-keys, quad-head}
 use Rattle.update.proofs.StoringLaws.{none, Forms, form-at, prefix-rest, quiet-prefix, Shut, shut-prefix, swap-kept, storing, storedNext}
 use Rattle.update.proofs.PlaceLaws.{storeOfAccess, total-place, quad-store, quad-step, quad-end}
-use Rattle.update.proofs.BankLaws.{quad-below, programmed-next}
+use Rattle.update.proofs.BankLaws.{quad-below, programmed-next, words-put}
 use Rattle.update.proofs.Phases.{placed, Fixed, oldWord, newWords, Quad, quadDevice, QuadStores, QuadStep, QuadEnd, Finished, Phase}
 use Rattle.update.proofs.Phases.Phase.{in-quad-stores, at-quad-step, at-quad-end, at-total}
 use Rattle.update.proofs.NextLaws.{Goes, goes-store, goes-step}
@@ -63,7 +63,7 @@ quad-ends : (t : Bool) → clearOf (runCon t 2) (WR + WRERR) ≡ enabledCon t 2
 quad-ends true = refl
 quad-ends false = refl
 
-end-idle : (t : Bool) → hasOf (enabledCon t 2) WR ≡ false
+pub end-idle : (t : Bool) → hasOf (enabledCon t 2) WR ≡ false
 end-idle true = refl
 end-idle false = refl
 
@@ -134,7 +134,7 @@ module _ (g : Geometry) (image : List ℕ) (b : Bool) (old : List ℕ) (fixed : 
   quad-shut : (j : ℕ) (words : List ℕ) → Shut true (take 10 (quadStores g j words))
   quad-shut j words = (refl, (refl, (refl, (refl, (refl, (refl, (refl, (refl, (refl, (refl, tt))))))))))
 
-  quad-quiet : (j : ℕ) → j < bankQuadsOf g → (words : List ℕ) → ((k : ℕ) → k < 4 → wordAt words k < 2 ^ 32) → NoLaunches (take 10 (quadStores g j words))
+  pub quad-quiet : (j : ℕ) → j < bankQuadsOf g → (words : List ℕ) → ((k : ℕ) → k < 4 → wordAt words k < 2 ^ 32) → NoLaunches (take 10 (quadStores g j words))
   unfolding hasFormOf
   quad-quiet j l words each = (
     quiet-plain 2 (upperAddressOf g j) refl refl (address-word g ok j l),
@@ -203,7 +203,7 @@ module _ (g : Geometry) (image : List ℕ) (b : Bool) (old : List ℕ) (fixed : 
             })
         go (inr l) = in-quad-stores (record { i = c .i; quad = c .quad; count = suc (c .count); few = l; here = omega (arith, c .here); device = next })
 
-    new-long : length new ≡ bankWordsOf g
+    pub new-long : length new ≡ bankWordsOf g
     new-long = go b (sound .first) (sound .other)
       where
         go : (t : Bool) → length (pick t new old) ≡ bankWordsOf g → length (pick t old new) ≡ bankWordsOf g → length new ≡ bankWordsOf g
@@ -240,6 +240,7 @@ module _ (g : Geometry) (image : List ℕ) (b : Bool) (old : List ℕ) (fixed : 
                 from = c .quad .from;
                 between = c .quad .between;
                 below = c .quad .below;
+                words = words-put new (programmedQuadOf g (c .i)) (newWords g image b old (c .i)) (c .quad .words) (new-words g image (wordAt old (sequenceIndexOf g)) (programmedQuadOf g (c .i)) (fixed .image-words));
                 programmed = programmed-next g ok new new-long image (wordAt old (sequenceIndexOf g)) (c .i) (c .quad .below) (c .quad .programmed);
               };
           here = omega (arith, c .here);
@@ -292,7 +293,7 @@ module _ (g : Geometry) (image : List ℕ) (b : Bool) (old : List ℕ) (fixed : 
             in-quad-stores
             (record {
               i = suc (c .i);
-              quad = record { from = storeOf g d 0 1 0x4000 .device; between = between; below = l; programmed = c .quad .programmed };
+              quad = record { from = storeOf g d 0 1 0x4000 .device; between = between; below = l; words = c .quad .words; programmed = c .quad .programmed };
               count = 0;
               few = omega arith;
               here = omega (arith, c .here);

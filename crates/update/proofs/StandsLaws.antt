@@ -21,7 +21,7 @@ use Rattle.update.specs.Turn.{nextActionOf, actionDeclineOf, performOf, 
 use Rattle.update.specs.PowerFail.{Position, at, turnedOf, turnsOf, NoneDeclined, ShortSrams}
 use Rattle.update.proofs.PlaceLaws.{total-place}
 use Rattle.update.proofs.TurnLaws.{turn-done, turn-cases, turn-performs}
-use Rattle.update.proofs.Phases.{placed, Fixed, Phase, Stands}
+use Rattle.update.proofs.Phases.{placed, Fixed, Finished, Phase, Stands}
 use Rattle.update.proofs.Phases.Phase.{in-clearing, in-unprotecting, in-page-stores, in-page-steps, at-page-end, in-quad-stores, at-quad-step, at-quad-end, at-total}
 use Rattle.update.proofs.NextLaws.{Goes}
 use Rattle.update.proofs.PrologueTurns.{clearing-goes, unprotecting-goes}
@@ -42,7 +42,7 @@ module _ (g : Geometry) (image : List ℕ) (b : Bool) (old : List ℕ) (fixed : 
   early-place : (place : ℕ) → place < 12 → place < totalOf g
   early-place place l = omega (arith, total-place g)
 
-  pub phase-place : (d : Device) (new : List ℕ) (place : ℕ) → Phase g image b old d new place → (place < totalOf g) ⊎ (place ≡ totalOf g)
+  pub phase-place : (d : Device) (new : List ℕ) (place : ℕ) → Phase g image b old d new place → (place < totalOf g) ⊎ Finished g image b old d new place
   phase-place d new place (in-clearing c) = inl (early-place place (omega (arith, c .below)))
   phase-place d new place (in-unprotecting c) = inl (early-place place (omega (arith, c .here, c .below)))
   phase-place d new place (in-page-stores c) = inl (rw (c .here) (page-place (c .i) (c .count) (c .page .below) (omega (arith, c .few))))
@@ -51,7 +51,7 @@ module _ (g : Geometry) (image : List ℕ) (b : Bool) (old : List ℕ) (fixed : 
   phase-place d new place (in-quad-stores c) = inl (rw (c .here) (quad-place (c .i) (c .count) (c .quad .below) (omega (arith, c .few))))
   phase-place d new place (at-quad-step c) = inl (rw (c .here) (quad-place (c .i) 11 (c .quad .below) (omega arith)))
   phase-place d new place (at-quad-end c) = inl (rw (c .here) (quad-place (c .i) 12 (c .quad .below) (omega arith)))
-  phase-place d new place (at-total c) = inr (c .here)
+  phase-place d new place (at-total c) = inr c
 
   phase-goes : (d : Device) (new : List ℕ) (place : ℕ) (sram : List ℕ) → Sound g (placed b d old new) → length sram ≤ 16384 → place < totalOf g
       → Phase g image b old d new place → Goes g image b old d new place sram
@@ -65,11 +65,11 @@ module _ (g : Geometry) (image : List ℕ) (b : Bool) (old : List ℕ) (fixed : 
   phase-goes d new place sram sound short l (at-quad-end c) = quad-end-goes g image b old fixed d new place sram sound c
   phase-goes d new place sram sound short l (at-total c) = absurd (omega (arith, c .here))
 
-  next-stands : (s : State) (place : ℕ) (d : Device) (new : List ℕ) → s ≡ placed b d old new → (sram : List ℕ) → Goes g image b old d new place sram
+  next-stands : (s : State) (place : ℕ) (d : Device) (new : List ℕ) → s ≡ placed b d old new → length (d .nvmdata) ≡ 4 → (sram : List ℕ) → Goes g image b old d new place sram
       → Stands g image b old (at (left (performOf g s sram (nextActionOf g s image place))) (place + 1))
-  next-stands s place d new e sram go =
+  next-stands s place d new e four sram go =
       rw e
-      (record { device = go .device; new = go .bank; state = go .leaves; sound = go .sound; phase = rw (add-one place) (go .phase) })
+      (record { device = go .device; new = go .bank; state = go .leaves; sound = go .sound; quad = go .four four; phase = rw (add-one place) (go .phase) })
 
   next-answers : (s : State) (place : ℕ) (d : Device) (new : List ℕ) → s ≡ placed b d old new → (sram : List ℕ) → Goes g image b old d new place sram
       → (acceptedOf (actionDeclineOf (s .device) (nextActionOf g s image place)) ≡ true) × (acceptedOf (performOf g s sram (nextActionOf g s image place) .decline) ≡ true)
@@ -81,12 +81,12 @@ module _ (g : Geometry) (image : List ℕ) (b : Bool) (old : List ℕ) (fixed : 
 
     performs : length sram ≤ 16384 → p .place < totalOf g
         → Stands g image b old (at (left (performOf g (p .state) sram (nextActionOf g (p .state) image (p .place)))) (p .place + 1))
-    performs short l = next-stands (p .state) (p .place) (stands .device) (stands .new) (stands .state) sram (goes short l)
+    performs short l = next-stands (p .state) (p .place) (stands .device) (stands .new) (stands .state) (stands .quad) sram (goes short l)
 
     pub stands-turn : Stands g image b old (turnedOf g image p sram)
     stands-turn = before (phase-place (stands .device) (stands .new) (p .place) (stands .phase))
       where
-        before : (p .place < totalOf g) ⊎ (p .place ≡ totalOf g) → Stands g image b old (turnedOf g image p sram)
+        before : (p .place < totalOf g) ⊎ Finished g image b old (stands .device) (stands .new) (p .place) → Stands g image b old (turnedOf g image p sram)
         before (inl l) = turn (turn-cases g (p .state) image sram (p .place) l)
           where
             turn : (turnedOf g image p sram ≡ p)
@@ -94,7 +94,7 @@ module _ (g : Geometry) (image : List ℕ) (b : Bool) (old : List ℕ) (fixed : 
                 → Stands g image b old (turnedOf g image p sram)
             turn (inl e) = rw e stands
             turn (inr (short, e)) = rw e (performs short l)
-        before (inr e) = rw (turn-done g (p .state) image sram (p .place) e) stands
+        before (inr c) = rw (turn-done g (p .state) image sram (p .place) (c .here)) stands
 
     -- a turn with a short SRAM before the total goes on
     pub turn-goes : length sram ≤ 16384 → p .place < totalOf g
