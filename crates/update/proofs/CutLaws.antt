@@ -14,6 +14,7 @@ use lib.ListN.{length, take}
 use borrow.Author.Tests.{eq-eqb}
 use Rattle.words.specs.Word.{pick, allOnes, mergeOf}
 use Rattle.words.specs.Quad.{wordAt, quadAt, putQuad, blankQuad, mergeQuadOf}
+use Rattle.words.proofs.QuadLaws.{put-length}
 use Rattle.geometry.specs.declared.banks.Geometry.{Geometry}
 use Rattle.geometry.specs.Banks.{InRange, pagesOf, pageQuadsOf, bankWordsOf}
 use Rattle.geometry.specs.Decline.{acceptedOf}
@@ -204,8 +205,10 @@ module _ (g : Geometry) (image : List ℕ) (b : Bool) (old : List ℕ) (fixed : 
       go (inr l) =
           inl
           (clash
-          (rw (other-word g ok new j (mergeQuadOf mask (newWords g image b old (c .i)) blankQuad) other,
-          ap (λ (q : List ℕ). wordAt q 0) (sequence-blank g ok new long image w (c .i) (c .quad .below) (c .quad .programmed))) erased-clash))
+          (rw (
+            other-word g ok new j (mergeQuadOf mask (newWords g image b old (c .i)) blankQuad) other,
+            ap (λ (q : List ℕ). wordAt q 0) (sequence-blank g ok new long image w (c .i) (c .quad .below) (c .quad .programmed)),
+          ) erased-clash))
         where
           other : programmedQuadOf g (c .i) ≡ sequenceQuadOf g → ⊥
           other h =
@@ -224,6 +227,7 @@ module _ (g : Geometry) (image : List ℕ) (b : Bool) (old : List ℕ) (fixed : 
   -- the device before a cut, and after it
   pub record AfterCut (d : Device) (kind : ℕ) (r : State) : Type 0 where
     pub new : List ℕ
+    pub long : length new ≡ bankWordsOf g
     pub outcome : Outcome new
     pub state : r ≡ placed b (resetDeviceOf d kind (chosenOf b (wordAt old (sequenceIndexOf g)) (wordAt new (sequenceIndexOf g)))) old new
 
@@ -273,11 +277,12 @@ module _ (g : Geometry) (image : List ℕ) (b : Bool) (old : List ℕ) (fixed : 
   cut-placed d new place sound phase sram kind mask h = go (cuts d new place sound phase)
     where
       go : Cuts d new place sound → AfterCut d kind (left (resetOf g d (pick b new old) (pick b old new) sram kind mask))
-      go (idle i) = record { new = new; outcome = i .outcome; state = reset-idle d new sram kind mask h (i .idle) }
+      go (idle i) = record { new = new; long = long d new place sound; outcome = i .outcome; state = reset-idle d new sram kind mask h (i .idle) }
       go (erases c) =
           let j = erasedPageOf g (c .i) * pageQuadsOf g + c .count in
           record {
             new = putQuad new j (mergeQuadOf mask blankQuad (quadAt new j));
+            long = put-length new j (mergeQuadOf mask blankQuad (quadAt new j)) ∙ long d new place sound;
             outcome = inl (erase-torn new (long d new place sound) j mask (c .page .losing));
             state = reset-tears d new sram kind mask h (rw (c .device) (page.run-on b)) j blankQuad (page.page-writes g image b old fixed d new place sram sound c);
           }
@@ -287,6 +292,7 @@ module _ (g : Geometry) (image : List ℕ) (b : Bool) (old : List ℕ) (fixed : 
           let blank = c .quad .programmed .blank (c .i) (omega arith) (c .quad .below) in
           record {
             new = putQuad new j (mergeQuadOf mask words (quadAt new j));
+            long = put-length new j (mergeQuadOf mask words (quadAt new j)) ∙ long d new place sound;
             outcome = rw (ap (λ (q : List ℕ). putQuad new j (mergeQuadOf mask words q)) blank) (program-torn d new place (long d new place sound) mask c);
             state = reset-tears d new sram kind mask h (rw (c .device) (quad.quad-on b)) j words (quad.quad-writes g image b old fixed d new place sram sound c);
           }

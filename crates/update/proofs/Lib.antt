@@ -13,3 +13,5 @@ pub mod PageTurns
 pub mod QuadTurns
 pub mod StandsLaws
 pub mod CutLaws
+pub mod StartLaws
+pub mod PowerFail

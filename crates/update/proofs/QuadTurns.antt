@@ -124,11 +124,19 @@ module _ (g : Geometry) (image : List ℕ) (b : Bool) (old : List ℕ) (fixed : 
   unfolding hasFormOf
   quad-forms j l words each = (
     (refl, address-word g ok j l),
-    ((refl, each 0 (omega arith)),
-    ((refl, each 1 (omega arith)),
-    ((refl, each 2 (omega arith)),
-    ((refl, each 3 (omega arith)),
-    ((refl, lit< tt), ((refl, lit< tt), ((refl, lit< tt), ((refl, lit< tt), ((refl, lit< tt), ((refl, lit< tt), tt)))))))))),
+    (
+      (refl, each 0 (omega arith)),
+      (
+        (refl, each 1 (omega arith)),
+        (
+          (refl, each 2 (omega arith)),
+          (
+            (refl, each 3 (omega arith)),
+            ((refl, lit< tt), ((refl, lit< tt), ((refl, lit< tt), ((refl, lit< tt), ((refl, lit< tt), ((refl, lit< tt), tt)))))),
+          ),
+        ),
+      ),
+    ),
   )
 
   quad-shut : (j : ℕ) (words : List ℕ) → Shut true (take 10 (quadStores g j words))
@@ -138,11 +146,19 @@ module _ (g : Geometry) (image : List ℕ) (b : Bool) (old : List ℕ) (fixed : 
   unfolding hasFormOf
   quad-quiet j l words each = (
     quiet-plain 2 (upperAddressOf g j) refl refl (address-word g ok j l),
-    (quiet-plain 3 (wordAt words 0) refl refl (each 0 (omega arith)),
-    (quiet-plain 4 (wordAt words 1) refl refl (each 1 (omega arith)),
-    (quiet-plain 5 (wordAt words 2) refl refl (each 2 (omega arith)),
-    (quiet-plain 6 (wordAt words 3) refl refl (each 3 (omega arith)),
-    (quiet-op 2 refl (lit< tt), (quiet-set, quiet-keys)))))),
+    (
+      quiet-plain 3 (wordAt words 0) refl refl (each 0 (omega arith)),
+      (
+        quiet-plain 4 (wordAt words 1) refl refl (each 1 (omega arith)),
+        (
+          quiet-plain 5 (wordAt words 2) refl refl (each 2 (omega arith)),
+          (
+            quiet-plain 6 (wordAt words 3) refl refl (each 3 (omega arith)),
+            (quiet-op 2 refl (lit< tt), (quiet-set, quiet-keys)),
+          ),
+        ),
+      ),
+    ),
   )
 
   module _ (d : Device) (new : List ℕ) (place : ℕ) (sram : List ℕ) (sound : Sound g (placed b d old new)) where
