@@ -7,14 +7,15 @@ use Rattle.words.specs.Word.{pick}
 use Rattle.geometry.specs.declared.banks.Geometry.{Geometry}
 use Rattle.geometry.specs.declared.decline.Decline.{Decline}
 use Rattle.geometry.specs.declared.lent.Lent.{Lent}
-use Rattle.geometry.specs.declared.lent.Lent.the-variants.{Nothing, Bank, Banks}
+use Rattle.geometry.specs.declared.lent.Lent.the-variants.{Nothing, Bank, Banks, BanksAndImage}
 use Rattle.geometry.specs.Banks.{inRangeOf, bankWordsOf}
 
--- the lengths of the banks that a call is lent
+-- the lengths of the banks and the image that a call is lent
 abbrev pub lengthsOf : Lent → List ℕ
 lengthsOf Nothing = []
 lengthsOf (Bank bank) = bank ∷ []
 lengthsOf (Banks one two) = one ∷ two ∷ []
+lengthsOf (BanksAndImage one two image) = one ∷ two ∷ image ∷ []
 
 -- each of these lengths is that of a bank
 abbrev pub bankLengths : Geometry → List ℕ → Bool
@@ -25,7 +26,7 @@ bankLengths g (words ∷ rest) = eqb words (bankWordsOf g) && bankLengths g rest
 unfoldable pub lengthsFitOf : Geometry → List ℕ → ℕ → Bool
 lengthsFitOf g lengths sram = bankLengths g lengths && leb sram 16384
 
--- declines 1 and 2, by the lengths of the banks and of the SRAM, which is 0 where none is lent
+-- declines 1 and 2, by the lengths of the banks and the image, and of the SRAM, which is 0 where none is lent
 unfoldable pub lentDeclineOf : Geometry → List ℕ → ℕ → Decline
 lentDeclineOf g lengths sram =
     pick (inRangeOf g) (pick (lengthsFitOf g lengths sram) Decline.Accepted Decline.Length) Decline.Geometry

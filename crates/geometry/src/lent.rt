@@ -9,11 +9,12 @@ use crate::decline::Decline;
 
 pub const MOST_SRAM: usize = 16384;
 
-// The lengths of the banks that a call is lent.
+// The lengths of the banks and the image that a call is lent.
 pub enum Lent {
     Nothing,
     Bank(usize),
     Banks(usize, usize),
+    BanksAndImage(usize, usize, usize),
 }
 
 // Whether decline 2 does not apply. No call of the device: lent_decline asks in_range first.
@@ -36,6 +37,18 @@ fn lengths_fit(g: Geometry, lent: Lent, sram: usize) -> bool
                 return false;
             }
             if two != words {
+                return false;
+            }
+            room
+        }
+        Lent::BanksAndImage(one, two, image) => {
+            if one != words {
+                return false;
+            }
+            if two != words {
+                return false;
+            }
+            if image != words {
                 return false;
             }
             room

@@ -60,7 +60,7 @@ pub quad-codes : (b : Bool) → Codes b 2
 quad-codes true = record { small = omega arith; enables = refl; enabled = refl; clean = refl; code = refl; launches = refl }
 quad-codes false = record { small = omega arith; enables = refl; enabled = refl; clean = refl; code = refl; launches = refl }
 
-quiet-op : (op : ℕ) → bit 15 op ≡ false → op < 2 ^ 32 → NoLaunch (access 0 0 op)
+pub quiet-op : (op : ℕ) → bit 15 op ≡ false → op < 2 ^ 32 → NoLaunch (access 0 0 op)
 unfolding hasFormOf
 quiet-op op off l = record { form = refl; word = l; off = off }
 
@@ -141,7 +141,7 @@ filled (_ ∷ _ ∷ _ ∷ []) a b c d e = absurd (omega arith)
 filled (_ ∷ _ ∷ _ ∷ _ ∷ []) a b c d e = refl
 filled (_ ∷ _ ∷ _ ∷ _ ∷ _ ∷ l) a b c d e = absurd (omega arith)
 
-quiet-plain : (r v : ℕ) → eqb r 0 ≡ false → hasFormOf r 0 ≡ true → v < 2 ^ 32 → NoLaunch (access r 0 v)
+pub quiet-plain : (r v : ℕ) → eqb r 0 ≡ false → hasFormOf r 0 ≡ true → v < 2 ^ 32 → NoLaunch (access r 0 v)
 quiet-plain r v other ok l = record { form = ok; word = l; off = rw other }
 
 module _ (g : Geometry) (b : Bool) (d : Device) (at : Between g b d) where

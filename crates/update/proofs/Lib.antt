@@ -1,2 +1,17 @@
+pub mod WordLaws
 pub mod TargetLaws
 pub mod HeadLaws
+pub mod RestartLaws
+pub mod StoringLaws
+pub mod PlaceLaws
+pub mod TurnLaws
+pub mod BankLaws
+pub mod Phases
+pub mod NextLaws
+pub mod PrologueTurns
+pub mod PageTurns
+pub mod QuadTurns
+pub mod StandsLaws
+pub mod CutLaws
+pub mod StartLaws
+pub mod PowerFail

@@ -1,0 +1,104 @@
+-- Each turn that performs its action goes from one phase to the next: a store goes on in its list, a step writes its quad.
+-- Assumes nothing.
+use mathlib.Core.Path.{_≡_, refl, sym, ap, _∙_}
+use mathlib.Core.Bool.{Bool, true, false, not}
+use mathlib.Core.List.{List, [], _∷_}
+use mathlib.Core.Logic.{_⊎_, inl, inr}
+use Prim.Native.Nat.{ℕ, zero, suc, _+_, _*_, _^_, _≤_, _<_}
+use native.Mathlib.Nat.{eq-or-lt-of-le}
+use native.Mathlib.Omega.{arith}
+use lib.Dec.{eqb, lit<}
+use lib.ListN.{length, getD, take}
+use Rattle.words.specs.Word.{pick}
+use Rattle.words.specs.Quad.{wordAt, quadAt, putQuad, blankQuad}
+use Rattle.geometry.specs.declared.banks.Geometry.{Geometry}
+use Rattle.geometry.specs.declared.decline.Decline.{Decline}
+use Rattle.geometry.specs.Banks.{inRangeOf, InRange, pagesOf, pageQuadsOf, bankWordsOf}
+use Rattle.geometry.specs.Decline.{acceptedOf}
+use Rattle.geometry.proofs.SizeLaws.{in-range}
+use Rattle.device.specs.declared.record.Device.{Device}
+use Rattle.device.specs.Record.{running}
+use Rattle.device.specs.Opening.{openingOf}
+use Rattle.device.proofs.OpeningLaws.{opens}
+use Rattle.access.specs.Store.{hasFormOf, storeOf}
+use Rattle.access.specs.StartUp.{Access, access, storesOf}
+use Rattle.access.proofs.AcceptedLaws.{AtRest}
+use Rattle.flash.specs.declared.effect.Effect.{Effect}
+use Rattle.flash.specs.Effect.{effect, effectOf}
+use Rattle.flash.specs.Step.{After, after, stepDeclineOf, advanceOf, stepAcceptedOf, stepOf}
+use Rattle.machine.specs.Machine.{Operation, State, state, left, Sound}
+use Rattle.machine.proofs.StoreEquations.{store-accepted}
+use Rattle.machine.proofs.StoreLaws.{store-possible}
+use Rattle.machine.proofs.MachineLaws.{store-answers, run-sound}
+use Rattle.update.specs.declared.actions.Action.{Action}
+use Rattle.update.specs.declared.actions.Action.the-variants.{Store, Step}
+use Rattle.update.specs.Turn.{nextActionOf, actionDeclineOf, performOf}
+use Rattle.update.proofs.RestartLaws.{store-quad, step-quad}
+use Rattle.update.proofs.StoringLaws.{Fit}
+use Rattle.update.proofs.PlaceLaws.{storeOfAccess}
+use Rattle.update.proofs.Phases.{placed, Fixed, Phase}
+
+module _ (g : Geometry) (image : List ℕ) (b : Bool) (old : List ℕ) where
+  -- the action of a place is carried out and leads to the next phase
+  pub record Goes (d : Device) (new : List ℕ) (place : ℕ) (sram : List ℕ) : Type 0 where
+    pub allowed : acceptedOf (actionDeclineOf d (nextActionOf g (placed b d old new) image place)) ≡ true
+    pub answer : acceptedOf (performOf g (placed b d old new) sram (nextActionOf g (placed b d old new) image place) .decline) ≡ true
+    pub device : Device
+    pub bank : List ℕ
+    pub leaves : left (performOf g (placed b d old new) sram (nextActionOf g (placed b d old new) image place)) ≡ placed b device old bank
+    pub sound : Sound g (left (performOf g (placed b d old new) sram (nextActionOf g (placed b d old new) image place)))
+    pub four : length (d .nvmdata) ≡ 4 → length (device .nvmdata) ≡ 4
+    pub phase : Phase g image b old device bank (suc place)
+
+  -- a store
+  pub goes-store : (d : Device) (new : List ℕ) (place : ℕ) (sram : List ℕ) → Sound g (placed b d old new) → AtRest g d → (a : Access) → Fit a
+      → nextActionOf g (placed b d old new) image place ≡ storeOfAccess a
+      → Phase g image b old (storeOf g d (a .register) (a .form) (a .value) .device) new (suc place) → Goes d new place sram
+  goes-store d new place sram sound rest a (ok, word) action phase =
+      record {
+        allowed = rw (action, rest .idle);
+        answer = rw action (store-answers g d (a .register) (a .form) (a .value) (store-accepted g d rest (a .register) (a .form) ok));
+        device = storeOf g d (a .register) (a .form) (a .value) .device;
+        bank = new;
+        leaves = rw action;
+        sound =
+            rw action
+            (record {
+              possible = store-possible g d (a .register) (a .form) (a .value) word (store-accepted g d rest (a .register) (a .form) ok);
+              first = sound .first;
+              other = sound .other;
+            });
+        four = λ e. store-quad g d (a .register) (a .form) (a .value) ∙ e;
+        phase = phase;
+      }
+
+  -- a step that writes a quad of the new bank
+  placed-put : (d : Device) (new : List ℕ) (quad : ℕ) (words : List ℕ)
+      → left (stepAcceptedOf g d (pick b new old) (pick b old new) (effect false true (not b) quad words))
+      ≡ placed b (advanceOf g d false .device) old (putQuad new quad words)
+  placed-put d new quad words = go b
+    where
+      go : (t : Bool) → left (stepAcceptedOf g d (pick t new old) (pick t old new) (effect false true (not t) quad words))
+          ≡ placed t (advanceOf g d false .device) old (putQuad new quad words)
+      go true = refl
+      go false = refl
+
+  pub goes-step : (d : Device) (new : List ℕ) (place : ℕ) (sram : List ℕ) → inRangeOf g ≡ true → Sound g (placed b d old new) → length sram ≤ 16384 → running d ≡ true
+      → nextActionOf g (placed b d old new) image place ≡ Step
+      → (quad : ℕ) (words : List ℕ) → effectOf g d (pick b new old) (pick b old new) sram ≡ effect false true (not b) quad words
+      → Phase g image b old (advanceOf g d false .device) (putQuad new quad words) (suc place) → Goes d new place sram
+  unfolding stepOf stepDeclineOf
+  goes-step d new place sram listed sound short on action quad words writes phase =
+      record {
+        allowed = rw (action, on);
+        answer = rw (action, opened, on);
+        device = advanceOf g d false .device;
+        bank = putQuad new quad words;
+        leaves = rw (action, opened, on, writes) (placed-put d new quad words);
+        sound = rw action (run-sound g (placed b d old new) sound (Operation.step sram ∷ []) (tt, tt));
+        four = λ e. step-quad g d false ∙ e;
+        phase = phase;
+      }
+    where
+      opened : openingOf g d (length (pick b new old) ∷ length (pick b old new) ∷ []) (length sram) ≡ Decline.Accepted
+      opened = opens g d (length (pick b new old) ∷ length (pick b old new) ∷ []) (length sram) listed (sound .first, (sound .other, tt)) short (sound .possible)

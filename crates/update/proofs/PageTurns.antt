@@ -1,0 +1,283 @@
+-- The turns of a page: its stores launch its erase, each step blanks the next quad, and the end leads to the next page or to the first quad.
+-- Assumes nothing.
+use mathlib.Core.Path.{_≡_, refl, sym, ap, _∙_}
+use mathlib.Core.Bool.{Bool, true, false, not}
+use mathlib.Core.List.{List, [], _∷_}
+use mathlib.Core.Logic.{_⊎_, inl, inr}
+use Prim.Native.Nat.{ℕ, zero, suc, _+_, _*_, _%_, _^_, _≤_, _<_}
+use native.Mathlib.Nat.{eq-or-lt-of-le, mul-lt-mul-of-pos-right, add-zero}
+use native.Mathlib.Decide.{ℕ-discrete}
+use native.Mathlib.Omega.{arith}
+use lib.Arith.{digits-lt}
+use lib.Dec.{eqb, lit<}
+use lib.ListN.{length, getD, take}
+use borrow.Author.Tests.{eq-eqb, ne-eqb}
+use Rattle.words.specs.Word.{pick, hasOf, mergeOf, clearOf, allOnes}
+use Rattle.words.specs.Quad.{wordAt, quadAt, putQuad, blankQuad}
+use Rattle.geometry.specs.declared.banks.Geometry.{Geometry}
+use Rattle.geometry.specs.Banks.{InRange, pagesOf, pageQuadsOf, bankWordsOf}
+use Rattle.geometry.specs.Sequence.{sequenceQuadOf, sequenceIndexOf}
+use Rattle.geometry.proofs.SizeLaws.{in-range}
+use Rattle.device.specs.declared.record.Device.{Device}
+use Rattle.device.specs.Registers.{WR, WREN, WRERR, PFSWAP, BFSWAP, NVMOP}
+use Rattle.device.specs.Record.{withCon, running, bfswap, pfswap, opOf}
+use Rattle.device.specs.Operation.{lengthOf}
+use Rattle.device.proofs.PossibleLaws.{idle-step}
+use Rattle.access.specs.Store.{hasFormOf, accepted, storeOf}
+use Rattle.access.specs.StartUp.{Access, access, storesOf}
+use Rattle.access.proofs.AcceptedLaws.{AtRest}
+use Rattle.flash.specs.Effect.{effect, effectOf}
+use Rattle.flash.specs.Step.{advanced, advanceOf}
+use Rattle.flash.specs.declared.step.Advanced.{Advanced}
+use Rattle.machine.specs.Machine.{Sound}
+use Rattle.machine.proofs.StoreEquations.{withAddress, clear-wren}
+use Rattle.machine.proofs.RestLaws.{NoLaunches, no-launch-rests}
+use Rattle.update.specs.Actions.{pageStores, endStores, upperAddressOf, erasedPageOf, bankQuadsOf, pageActions, programmingFrom}
+use Rattle.update.specs.Start.{lowerWordOf}
+use Rattle.update.proofs.WordLaws.{Loses, erased-clash, clash-loses}
+use Rattle.update.proofs.TargetLaws.{address-word, erase-effect}
+use Rattle.update.proofs.HeadLaws.{Between, restCon, enabledCon, runCon, quiet-op, quiet-plain, quiet-set, quiet-clear, quiet-keys, page-head}
+use Rattle.update.proofs.StoringLaws.{none, Forms, form-at, prefix-rest, storing, storedNext}
+use Rattle.update.proofs.PlaceLaws.{page-store, page-step, page-end}
+use Rattle.update.proofs.BankLaws.{erasedQuadOf, Erased, page-below, page-quad, erased-next, programmed-none, some-quads, words-put, other-word, same-word}
+use Rattle.update.proofs.Phases.{placed, Fixed, Losing, Page, pageDevice, PageStores, PageSteps, PageEnd, QuadStores, Phase}
+use Rattle.update.proofs.Phases.Phase.{in-page-stores, in-page-steps, at-page-end, in-quad-stores}
+use Rattle.update.proofs.NextLaws.{Goes, goes-store, goes-step}
+
+pub blank-words : (k : ℕ) → k < 4 → wordAt blankQuad k < 2 ^ 32
+blank-words zero l = lit< tt
+blank-words (suc zero) l = lit< tt
+blank-words (suc (suc zero)) l = lit< tt
+blank-words (suc (suc (suc zero))) l = lit< tt
+blank-words (suc (suc (suc (suc k)))) l = absurd (omega arith)
+
+-- NVMCON while a page is erased, and after it
+pub run-on : (t : Bool) → hasOf (runCon t 4) WR ≡ true
+run-on true = refl
+run-on false = refl
+
+pub run-boot : (t : Bool) → hasOf (runCon t 4) BFSWAP ≡ t
+run-boot true = refl
+run-boot false = refl
+
+run-program : (t : Bool) → hasOf (runCon t 4) PFSWAP ≡ t
+run-program true = refl
+run-program false = refl
+
+run-op : (t : Bool) → runCon t 4 % 16 ≡ 4
+run-op true = refl
+run-op false = refl
+
+run-ends : (t : Bool) → clearOf (runCon t 4) (WR + WRERR) ≡ enabledCon t 4
+run-ends true = refl
+run-ends false = refl
+
+pub end-idle : (t : Bool) → hasOf (enabledCon t 4) WR ≡ false
+end-idle true = refl
+end-idle false = refl
+
+end-rests : (t : Bool) → clearOf (enabledCon t 4) WREN ≡ restCon t 4
+end-rests true = refl
+end-rests false = refl
+
+rest-codes : (t : Bool)
+    → (hasOf (restCon t 4) WREN ≡ false)
+    × (mergeOf (WREN + NVMOP) 4 (restCon t 4) ≡ restCon t 4)
+    × (mergeOf (WREN + NVMOP) 2 (restCon t 4) ≡ restCon t 2)
+    × (hasOf (restCon t 4) BFSWAP ≡ t)
+    × (hasOf (restCon t 4) PFSWAP ≡ t)
+rest-codes true = (refl, refl, refl, refl, refl)
+rest-codes false = (refl, refl, refl, refl, refl)
+
+module _ (g : Geometry) (image : List ℕ) (b : Bool) (old : List ℕ) (fixed : Fixed g image old) where
+  ok : InRange g
+  ok = in-range g (fixed .listed)
+
+  page-word : (p : ℕ) → p < pagesOf g → upperAddressOf g (p * pageQuadsOf g) < 2 ^ 32
+  page-word p l = address-word g ok (p * pageQuadsOf g) (mul-lt-mul-of-pos-right l (omega (arith, ok .q-low)))
+
+  page-forms : (p : ℕ) → p < pagesOf g → Forms (pageStores g p)
+  unfolding hasFormOf
+  page-forms p l =
+      ((refl, page-word p l), ((refl, lit< tt), ((refl, lit< tt), ((refl, lit< tt), ((refl, lit< tt), ((refl, lit< tt), ((refl, lit< tt), tt)))))))
+
+  pub page-quiet : (p : ℕ) → p < pagesOf g → NoLaunches (take 6 (pageStores g p))
+  unfolding hasFormOf
+  page-quiet p l =
+      (quiet-plain 2 (upperAddressOf g (p * pageQuadsOf g)) refl refl (page-word p l), (quiet-op 4 refl (lit< tt), (quiet-set, quiet-keys)))
+
+  -- a blank quad leaves the new bank losing
+  erase-loses : (new : List ℕ) → length new ≡ bankWordsOf g → (j : ℕ) → Losing g image b old new → Losing g image b old (putQuad new j blankQuad)
+  erase-loses new long j losing =
+      record { words = words-put new j blankQuad (losing .words) blank-words; loses = go (ℕ-discrete j (sequenceQuadOf g)) }
+    where
+      go : Dec (j ≡ sequenceQuadOf g) → Loses b (wordAt old (sequenceIndexOf g)) (wordAt (putQuad new j blankQuad) (sequenceIndexOf g))
+      go (yes e) = clash-loses b (wordAt old (sequenceIndexOf g)) _ (fixed .valid) (rw (e, same-word g ok new allOnes allOnes allOnes allOnes long) erased-clash)
+      go (no n) = rw (other-word g ok new j blankQuad n) (losing .loses)
+
+  module _ (d : Device) (new : List ℕ) (place : ℕ) (sram : List ℕ) (sound : Sound g (placed b d old new)) where
+    pub page-stores-go : PageStores g image b old d new place → Goes g image b old d new place sram
+    page-stores-go c =
+        goes-store g image b old d new place sram sound
+        (rw (c .device) (prefix-rest g (c .page .from) (c .page .between .rest) stores 6 (c .count) (omega (arith, c .few)) (page-quiet p (page-below g ok (c .i) (c .page .below)))))
+        (getD stores (c .count) none) (form-at stores (page-forms p (page-below g ok (c .i) (c .page .below))) (c .count) (c .few))
+        (rw (c .here) (page-store g image (lowerWordOf g (placed b d old new)) (c .i) (c .count) (c .page .below) (c .few)))
+        (go (eq-or-lt-of-le (c .few)))
+      where
+        p : ℕ
+        p = erasedPageOf g (c .i)
+
+        stores : List Access
+        stores = pageStores g (erasedPageOf g (c .i))
+
+        next : storedNext g d (pageStores g (erasedPageOf g (c .i))) (c .count) ≡ storesOf g (c .page .from) (take (suc (c .count)) (pageStores g (erasedPageOf g (c .i))))
+        next = storing g d (c .page .from) (pageStores g (erasedPageOf g (c .i))) (c .count) (c .few) (c .device)
+
+        rested : c .page .from .step ≡ 0
+        rested = idle-step g (c .page .from) (c .page .between .rest .possible) (c .page .between .rest .idle)
+
+        go : (suc (c .count) ≡ 7) ⊎ (suc (c .count) < 7) → Phase g image b old (storedNext g d (pageStores g (erasedPageOf g (c .i))) (c .count)) new (suc place)
+        go (inl e) =
+            in-page-steps
+            (record {
+              i = c .i;
+              count = 0;
+              page =
+                  record {
+                    from = c .page .from;
+                    between = c .page .between;
+                    losing = c .page .losing;
+                    below = c .page .below;
+                    erased = λ x l. c .page .erased x (omega arith);
+                  };
+              few = omega (arith, ok .q-low);
+              here = omega (arith, c .here, e);
+              device = next ∙ ap (λ (n : ℕ). storesOf g (c .page .from) (take n (pageStores g (erasedPageOf g (c .i))))) e
+                  ∙ page-head g b (c .page .from) (c .page .between) (erasedPageOf g (c .i)) (page-below g ok (c .i) (c .page .below))
+                  ∙ ap (λ (n : ℕ). pageDevice g image b old (c .page .from) (c .i) (runCon b 4) n) rested;
+            })
+        go (inr l) = in-page-stores (record { i = c .i; page = c .page; count = suc (c .count); few = l; here = omega (arith, c .here); device = next })
+
+    new-long : length new ≡ bankWordsOf g
+    new-long = go b (sound .first) (sound .other)
+      where
+        go : (t : Bool) → length (pick t new old) ≡ bankWordsOf g → length (pick t old new) ≡ bankWordsOf g → length new ≡ bankWordsOf g
+        go true x y = x
+        go false x y = y
+
+    -- the next quad of the page is blanked
+    pub page-writes : (c : PageSteps g image b old d new place)
+        → effectOf g d (pick b new old) (pick b old new) sram ≡ effect false true (not b) (erasedPageOf g (c .i) * pageQuadsOf g + c .count) blankQuad
+    page-writes c =
+        rw (c .device)
+        (erase-effect g ok (pageDevice g image b old (c .page .from) (c .i) (runCon b 4) (c .count)) (c .page .between .free) (run-program b ∙ sym (run-boot b))
+        (pick b new old) (pick b old new) sram (erasedPageOf g (c .i)) (c .count) (page-below g ok (c .i) (c .page .below)) (c .few) (run-op b) refl refl
+        ∙ ap (λ (t : Bool). effect false true (not t) (erasedPageOf g (c .i) * pageQuadsOf g + c .count) blankQuad) (run-boot b))
+
+    pub page-steps-go : length sram ≤ 16384 → PageSteps g image b old d new place → Goes g image b old d new place sram
+    unfolding advanceOf lengthOf
+    page-steps-go short c =
+        goes-step g image b old d new place sram (fixed .listed) sound short (rw (c .device) (run-on b))
+        (rw (c .here) (page-step g image (lowerWordOf g (placed b d old new)) (c .i) (c .count) (c .page .below) (c .few)))
+        quad blankQuad (page-writes c) (go (ℕ-discrete (c .count + 1) (pageQuadsOf g)))
+      where
+        quad : ℕ
+        quad = erasedPageOf g (c .i) * pageQuadsOf g + c .count
+
+        index : erasedQuadOf g (c .i * pageQuadsOf g + c .count) ≡ erasedPageOf g (c .i) * pageQuadsOf g + c .count
+        index = page-quad g ok (c .i) (c .count) (c .few)
+
+        erased : Erased g (putQuad new (erasedPageOf g (c .i) * pageQuadsOf g + c .count) blankQuad) (suc (c .i * pageQuadsOf g + c .count))
+        erased = rw index at (erased-next g ok new new-long (c .i * pageQuadsOf g + c .count) (digits-lt (c .page .below) (c .few)) (c .page .erased))
+
+        losing : Losing g image b old (putQuad new (erasedPageOf g (c .i) * pageQuadsOf g + c .count) blankQuad)
+        losing = erase-loses new new-long (erasedPageOf g (c .i) * pageQuadsOf g + c .count) (c .page .losing)
+
+        page : (done : ℕ) → done ≡ suc (c .i * pageQuadsOf g + c .count) → Page g image b old (putQuad new (erasedPageOf g (c .i) * pageQuadsOf g + c .count) blankQuad) (c .i) done
+        page done h = record { from = c .page .from; between = c .page .between; losing = losing; below = c .page .below; erased = rw h erased }
+
+        goes-on : (t : Bool) → eqb (c .count + 1) (8 * g .q) ≡ t
+            → advanceOf g d false .device
+            ≡ pick t (pageDevice g image b old (c .page .from) (c .i) (enabledCon b 4) 0) (pageDevice g image b old (c .page .from) (c .i) (runCon b 4) (c .count + 1))
+        goes-on true h = rw (c .device, run-op b, h, run-ends b)
+        goes-on false h = rw (c .device, run-op b, h)
+
+        go : Dec (c .count + 1 ≡ pageQuadsOf g) → Phase g image b old (advanceOf g d false .device) (putQuad new quad blankQuad) (suc place)
+        go (yes h) =
+            at-page-end
+            (record {
+              i = c .i;
+              page = page (suc (c .i) * pageQuadsOf g) (omega (arith, h));
+              here = omega (arith, c .here, h);
+              device = goes-on true (eq-eqb _ _ h);
+            })
+        go (no h) =
+            in-page-steps
+            (record {
+              i = c .i;
+              count = c .count + 1;
+              page = page (c .i * pageQuadsOf g + (c .count + 1)) (omega arith);
+              few = omega (arith, c .few, h);
+              here = omega (arith, c .here);
+              device = goes-on false (ne-eqb _ _ h);
+            })
+
+    pub page-end-goes : PageEnd g image b old d new place → Goes g image b old d new place sram
+    unfolding hasFormOf
+    page-end-goes c =
+        goes-store g image b old d new place sram sound rest (access 0 1 0x4000) (refl, lit< tt)
+        (rw (c .here) (page-end g image (lowerWordOf g (placed b d old new)) (c .i) (c .page .below)))
+        (go (eq-or-lt-of-le (c .page .below)))
+      where
+        from : Device
+        from = c .page .from
+
+        rest : AtRest g d
+        rest = record { listed = fixed .listed; range = ok; possible = sound .possible; idle = rw (c .device) (end-idle b) }
+
+        ended : storeOf g d 0 1 0x4000 .device ≡ pageDevice g image b old (c .page .from) (c .i) (restCon b 4) 0
+        ended = ap (λ s. s .device) (clear-wren g d rest) ∙ rw (c .device, end-rests b)
+
+        between : Between g b (storeOf g d 0 1 0x4000 .device)
+        between =
+            record {
+              rest = no-launch-rests g d rest (access 0 1 0x4000) quiet-clear;
+              shut = rw ended;
+              wren = rw ended (rest-codes b .0);
+              page-op = rw ended (rest-codes b .1);
+              quad-op = rw ended (rest-codes b .2);
+              boot = rw ended (rest-codes b .3);
+              program = rw ended (rest-codes b .4);
+              free = rw ended (c .page .between .free);
+              reach = rw ended (c .page .between .reach);
+              quad = rw ended (c .page .between .quad);
+            }
+
+        go : (suc (c .i) ≡ pagesOf g) ⊎ (suc (c .i) < pagesOf g) → Phase g image b old (storeOf g d 0 1 0x4000 .device) new (suc place)
+        go (inl e) =
+            in-quad-stores
+            (record {
+              i = 0;
+              quad =
+                  record {
+                    from = storeOf g d 0 1 0x4000 .device;
+                    between = between;
+                    below = some-quads g ok;
+                    words = c .page .losing .words;
+                    programmed = programmed-none g ok new new-long image (wordAt old (sequenceIndexOf g)) (rw (ap (λ (n : ℕ). n * pageQuadsOf g) e) at (c .page .erased));
+                  };
+              count = 0;
+              few = omega arith;
+              here = omega (arith, c .here, ap (λ (n : ℕ). n * pageActions g) e);
+              device = refl;
+            })
+        go (inr l) =
+            in-page-stores
+            (record {
+              i = suc (c .i);
+              page = record { from = storeOf g d 0 1 0x4000 .device; between = between; losing = c .page .losing; below = l; erased = c .page .erased };
+              count = 0;
+              few = omega arith;
+              here = omega (arith, c .here);
+              device = refl;
+            })
