@@ -269,12 +269,6 @@ pub fn left_of_bar(line: &str) -> &str {
     left.strip_suffix(' ').unwrap_or(left)
 }
 
-/// Whether a line is of the update's own calls, which the conformance program does not know yet.
-pub fn of_update(line: &str) -> bool {
-    let name = line.split(' ').next().unwrap_or("");
-    name == Call::UpdateStart.shape().name || name == Call::Turn.shape().name
-}
-
 fn parse_number(part: &str) -> Option<u32> {
     if part.is_empty() || !part.bytes().all(|byte| byte.is_ascii_digit()) {
         return None;

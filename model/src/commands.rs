@@ -5,7 +5,8 @@ use std::io::{self, BufRead, BufWriter, Read, Write};
 use std::path::{Path, PathBuf};
 use std::time::Instant;
 
-use model::cases::{answer_line, left_of_bar, of_update};
+use model::cases::{answer_line, left_of_bar};
+use model::cuts::cuts;
 use model::device::{Device, NVMCON};
 use model::flash::reset;
 use model::generate::{self, Cases, DEFAULT_WORDS};
@@ -39,6 +40,7 @@ pub fn run(words: &[&str]) -> Option<io::Result<bool>> {
             ];
             Some(update(numbers))
         }
+        ["cuts"] => Some(print_cuts()),
         _ => None,
     }
 }
@@ -155,8 +157,7 @@ fn complete(file: &str) -> io::Result<bool> {
     let stored = std::fs::read_to_string(file)?;
     let directed = generate::directed::cases();
     let directed: Vec<String> = directed.iter().map(|(_, case)| case.inputs()).collect();
-    let stored = stored.lines().filter(|line| !of_update(line));
-    for line in stored.chain(directed.iter().map(String::as_str)) {
+    for line in stored.lines().chain(directed.iter().map(String::as_str)) {
         if seen.insert(left_of_bar(line)) {
             bytes.push(b'\n');
             bytes.extend_from_slice(line.as_bytes());
@@ -227,5 +228,10 @@ fn update(numbers: [u32; 3]) -> io::Result<bool> {
     }
     let rate = f64::from(place) / seconds;
     println!("{place} turns, {seconds:.6} seconds, {rate:.0} turns per second");
+    Ok(true)
+}
+
+fn print_cuts() -> io::Result<bool> {
+    io::stdout().lock().write_all(cuts().as_bytes())?;
     Ok(true)
 }

@@ -15,7 +15,8 @@ const USAGE: &str = "usage:
   model complete FILE
   model cases SEED COUNT [MAX_WORDS]
   model script SEED [damaged]
-  model update Q B P";
+  model update Q B P
+  model cuts";
 
 fn main() -> ExitCode {
     let words: Vec<String> = std::env::args().skip(1).collect();

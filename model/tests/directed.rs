@@ -14,6 +14,9 @@ const CON: usize = 1;
 /// Where the number or the event after such a device stands.
 const AFTER_DEVICE: usize = 14;
 
+/// Where the event stands in a turn's answer: after done, the device and the place.
+const TURN_EVENT: usize = 16;
+
 fn numbers(case: &Case) -> Vec<u32> {
     let answer = case.answer().expect("a case of a known call");
     answer
@@ -37,6 +40,9 @@ fn outcome(case: &Case) -> String {
         Call::Step => "counted",
         Call::Reset if numbers[AFTER_DEVICE] > 0 => "torn",
         Call::Reset => "untouched",
+        Call::Turn if numbers[1] == 1 => "done",
+        Call::Turn if numbers[TURN_EVENT + 1] > 0 => "written",
+        Call::Turn if numbers[TURN_EVENT] == 1 => "event",
         _ => "accepted",
     };
     String::from(text)
@@ -80,9 +86,13 @@ fn both_sides_of_each_subject_occur() {
         ("orders", "step", "counted 1 2 3 6"),
         ("orders", "reset", "untouched 1 2 3 7"),
         ("orders", "startup", "accepted 1 3 5"),
+        ("orders", "update_start", "accepted 1 2 3 5 10 11 12"),
+        ("orders", "turn", "accepted 1 2 3 5 6 13"),
         ("impossible", "possible", "0 1"),
         ("pages", "page", "accepted 2 8"),
         ("protection", "protected", "0 1"),
+        ("starts", "update_start", "accepted 2 5 10 11 12"),
+        ("turns", "turn", "accepted written event done 2 5 6 13"),
     ] {
         let expected: BTreeSet<String> = expected.split(' ').map(String::from).collect();
         assert_eq!(outcomes[&(subject, call)], expected, "{subject} {call}");
@@ -100,6 +110,8 @@ fn every_call_declines_an_impossible_device() {
         "step",
         "reset",
         "startup",
+        "update_start",
+        "turn",
     ] {
         let expected = BTreeSet::from([String::from("3")]);
         assert_eq!(outcomes[&("impossible", call)], expected, "{call}");

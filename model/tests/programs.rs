@@ -1,6 +1,7 @@
 //! What the proved programs are expected to print is what this model gives for their stored inputs.
 
-use model::cases::{answer_line, left_of_bar, of_update};
+use model::cases::{answer_line, left_of_bar};
+use model::cuts::cuts;
 use model::generate::directed::cases;
 use model::generate::record_edges;
 use model::script::{play, unbundled};
@@ -38,25 +39,17 @@ fn bundle_of_scripts() {
     }
 }
 
-/// The conformance program does not know the update's calls yet.
 #[test]
 fn conformance_program() {
     let inputs = stored("conformance", "stdin");
     let printed: String = inputs
         .split(|&byte| byte == b'\n')
-        .map(|line| {
-            let line = String::from_utf8_lossy(line);
-            if of_update(&line) {
-                String::from("?\n")
-            } else {
-                answer_line(&line) + "\n"
-            }
-        })
+        .map(|line| answer_line(&String::from_utf8_lossy(line)) + "\n")
         .collect();
     assert_eq!(printed.as_bytes(), stored("conformance", "stdout"));
 }
 
-/// Every stored call case that the program knows, and every directed one, is among its inputs.
+/// Every stored call case and every directed one is among the program's inputs.
 #[test]
 fn conformance_inputs() {
     let inputs = stored("conformance", "stdin");
@@ -64,11 +57,16 @@ fn conformance_inputs() {
     let there: HashSet<&str> = inputs.lines().map(left_of_bar).collect();
     let vectors = Path::new(env!("CARGO_MANIFEST_DIR")).join("vectors/calls.txt");
     let calls = std::fs::read_to_string(vectors).unwrap();
-    for line in calls.lines().filter(|line| !of_update(line)) {
+    for line in calls.lines() {
         assert!(there.contains(left_of_bar(line)), "{line}");
     }
     for (subject, case) in cases() {
         let inputs = case.inputs();
         assert!(there.contains(&inputs[..]), "{subject}: {inputs}");
     }
+}
+
+#[test]
+fn cuts_program() {
+    assert_eq!(cuts().as_bytes(), stored("cuts", "stdout"));
 }

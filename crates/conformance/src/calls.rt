@@ -1,7 +1,7 @@
 // From a call's inputs to its answer.
 ghost use Prim.Native.Nat.{_≤_, _<_};
 ghost use lib.ListN.{length};
-ghost use Rattle.conformance_cases.specs.Cases.{Lent};
+ghost use Rattle.conformance_cases.specs.Cases.{Lent, Parted};
 use crate::names::Call;
 use conformance_answers::bank_calls::flash_read_answer;
 use conformance_answers::bank_calls::lower_bank_answer;
@@ -14,6 +14,8 @@ use conformance_answers::device_calls::protected_answer;
 use conformance_answers::device_calls::register_read_answer;
 use conformance_answers::device_calls::start_up_answer;
 use conformance_answers::device_calls::store_answer;
+use conformance_answers::update_calls::turn_answer;
+use conformance_answers::update_calls::update_start_answer;
 use conformance_cases::answer::Answer;
 use conformance_cases::cases::Case;
 use conformance_cases::cases::take_case;
@@ -61,14 +63,20 @@ fn case_answer(
     two: &mut [u32],
     spare: &mut [u32],
 ) -> Answer
-    requires { ⌜ Lent (now one) (now two) (now spare) (case .sram) ⌝ }
-    ensures { λ r. ⌜ r .count ≤ 32 ⌝ }
+    requires { ⌜ Lent (now one) (now two) (now spare) (case .end) ⌝ }
+    requires { ⌜ Parted (now spare) (case .middle) (case .end) ⌝ }
+    ensures { λ r. ⌜ r .count ≤ 36 ⌝ }
 {
     let front = case.front;
     let back = case.back;
+    let lists = case.lists;
+    let middle = case.middle;
+    let end = case.end;
     match call {
-        Call::Step => step_answer(line, case.lists, front, one, two, spare, case.sram),
-        Call::Reset => reset_answer(line, case.lists, front, back, one, two, spare, case.sram),
+        Call::Step => step_answer(line, lists, front, one, two, spare, end),
+        Call::Reset => reset_answer(line, lists, front, back, one, two, spare, end),
+        Call::Turn => turn_answer(line, lists, front, one, two, spare, middle, end, back[0]),
+        Call::UpdateStart => update_start_answer(front, one, two, &spare[..end]),
         _ => still_answer(call, front, one, two, back[0]),
     }
 }
@@ -82,7 +90,7 @@ pub fn call_answer(
     two: &mut [u32],
     spare: &mut [u32],
 ) -> Answer
-    ensures { λ r. ⌜ r .count ≤ 32 ⌝ }
+    ensures { λ r. ⌜ r .count ≤ 36 ⌝ }
 {
     let case = take_case(line, at, call.shape(), one, two, spare);
     if !case.is_right {

@@ -40,7 +40,7 @@ fn inputs_end(line: &[u8]) -> usize
 
 // What the line of a case gives.
 fn answer(line: &[u8], one: &mut [u32], two: &mut [u32], spare: &mut [u32]) -> Answer
-    ensures { λ r. ⌜ r .count ≤ 32 ⌝ }
+    ensures { λ r. ⌜ r .count ≤ 36 ⌝ }
 {
     let end = inputs_end(line);
     let inputs = &line[..end];

@@ -15,6 +15,8 @@ pub enum Call {
     Step,
     Reset,
     StartUp,
+    UpdateStart,
+    Turn,
     Unknown,
 }
 
@@ -60,6 +62,12 @@ impl Call {
         if same(name, b"startup") {
             return Call::StartUp;
         }
+        if same(name, b"update_start") {
+            return Call::UpdateStart;
+        }
+        if same(name, b"turn") {
+            return Call::Turn;
+        }
         Call::Unknown
     }
 
@@ -79,6 +87,8 @@ impl Call {
             Call::Step => taking(16, 3, 0),
             Call::Reset => taking(16, 3, 5),
             Call::StartUp => taking(16, 0, 0),
+            Call::UpdateStart => taking(16, 3, 0),
+            Call::Turn => taking(16, 4, 1),
             Call::Unknown => taking(0, 0, 0),
         }
     }

@@ -46,7 +46,7 @@ pub fn step_answer(
     sram: usize,
 ) -> Answer
     requires { ⌜ Lent (now one) (now two) (now spare) sram ⌝ }
-    ensures { λ r. ⌜ r .count ≤ 32 ⌝ }
+    ensures { λ r. ⌜ r .count ≤ 36 ⌝ }
 {
     let g = geometry_of(front);
     let d = device_of(front);
@@ -65,7 +65,7 @@ pub fn reset_answer(
     sram: usize,
 ) -> Answer
     requires { ⌜ Lent (now one) (now two) (now spare) sram ⌝ }
-    ensures { λ r. ⌜ r .count ≤ 32 ⌝ }
+    ensures { λ r. ⌜ r .count ≤ 36 ⌝ }
 {
     let g = geometry_of(front);
     let d = device_of(front);

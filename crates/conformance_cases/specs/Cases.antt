@@ -1,23 +1,33 @@
 -- The lists of a case in their buffers. Assumes nothing.
 use Prim.Native.Nat.{ℕ, _≤_, _<_}
+use mathlib.Core.Path.{_≡_}
 use mathlib.Core.List.{List}
-use lib.ListN.{length}
+use lib.ListN.{length, take}
 use Rattle.conformance_cases.specs.Lists.{Held}
 use Rattle.conformance_cases.specs.declared.cases.Case.{Case}
+
+-- two lists stand in the spare buffer one after the other, up to `middle` and from there up to `end`
+pub record Parted (spare : List ℕ) (middle end : ℕ) : Type 0 where
+  pub ordered : middle ≤ end
+  pub within : end ≤ length spare
+  -- follow from `ordered` and `within`; stated so that `&spare[..middle]` and `&spare[..end]` need no proof
+  pub front : middle ≡ length (take middle spare)
+  pub both : end ≡ length (take end spare)
 
 -- each list stands in its buffer, and the spare buffer has room for each bank too
 pub record Read (one two spare : List ℕ) (case : Case) : Type 0 where
   pub in-one : Held one (length spare) (case .one)
   pub in-two : Held two (length spare) (case .two)
-  pub in-spare : Held spare (length spare) (case .sram)
+  pub in-spare : Parted spare (case .middle) (case .end)
 
 -- the spare buffer has room for a bank, whose indices are words
 pub record Room (bank spare : List ℕ) : Type 0 where
   pub room : length bank ≤ length spare
   pub fits : length bank < 4294967296
 
--- two banks, for each of which the spare buffer has room, and the words of the SRAM, which stands there
-pub record Lent (one two spare : List ℕ) (sram : ℕ) : Type 0 where
+-- two banks, for each of which the spare buffer has room, and where the lists after them end there
+pub record Lent (one two spare : List ℕ) (end : ℕ) : Type 0 where
   pub for-one : Room one spare
   pub for-two : Room two spare
-  pub in-spare : Held spare (length spare) sram
+  pub within : end ≤ length spare
+  pub front : end ≡ length (take end spare)

@@ -1,7 +1,7 @@
 // The inputs of a call: numbers, lent lists, and numbers again.
 // What asks for a shape is no call of the device: its callers show it.
 ghost use Prim.Native.Nat.{_≤_};
-ghost use Rattle.conformance_cases.specs.Cases.{Read};
+ghost use Rattle.conformance_cases.specs.Cases.{Parted, Read};
 use crate::lists::take_list_if;
 use crate::numbers::take;
 
@@ -12,16 +12,42 @@ pub struct Shape {
     pub back: usize,
 }
 
-// Whether a line has the inputs, the numbers before the lists, where the lists start, the words of each, and the numbers
-// after them. A third list, the SRAM, stands in the spare buffer.
+// Whether a line has the inputs, the numbers before the lists, where the lists start, the words of both banks, and the
+// numbers after the lists. Lists after the banks stand in the spare buffer: the last one ends there at `end`, and of two
+// the first ends, and the last starts, at `middle`.
 pub struct Case {
     pub is_right: bool,
     pub front: [u32; 20],
     pub lists: usize,
     pub one: usize,
     pub two: usize,
-    pub sram: usize,
+    pub middle: usize,
+    pub end: usize,
     pub back: [u32; 20],
+}
+
+// The lists after the banks: whether they are there, where they end in the line, and where in the spare buffer.
+struct Rest {
+    is_right: bool,
+    next: usize,
+    middle: usize,
+    end: usize,
+}
+
+// The third and fourth list of a call, one after the other in the spare buffer. A call that takes three has its third
+// in the place of the last.
+fn take_rest(lists: usize, line: &[u8], at: usize, spare: &mut [u32], most: usize) -> Rest
+    ensures { λ r. ⌜ Parted (now (spare .exit)) (r .middle) (r .end) ⌝ }
+{
+    let first = take_list_if(3 < lists, line, at, spare, most);
+    let middle = first.length;
+    let last = take_list_if(2 < lists, line, first.next, &mut spare[middle..], most);
+    Rest {
+        is_right: all(first.is_right, last.is_right, true),
+        next: last.next,
+        middle,
+        end: middle + last.length,
+    }
 }
 
 fn all(first: bool, second: bool, third: bool) -> bool {
@@ -43,9 +69,9 @@ pub fn take_case(
     let first = take(line, at, shape.front);
     let bank = take_list_if(0 < shape.lists, line, first.next, one, spare.len());
     let other = take_list_if(1 < shape.lists, line, bank.next, two, spare.len());
-    let sram = take_list_if(2 < shape.lists, line, other.next, spare, spare.len());
-    let last = take(line, sram.next, shape.back);
-    let are_lists = all(bank.is_right, other.is_right, sram.is_right);
+    let rest = take_rest(shape.lists, line, other.next, spare, one.len());
+    let last = take(line, rest.next, shape.back);
+    let are_lists = all(bank.is_right, other.is_right, rest.is_right);
     let is_end = last.next == line.len();
     let front = first.words;
     let back = last.words;
@@ -55,7 +81,8 @@ pub fn take_case(
         lists: first.next,
         one: bank.length,
         two: other.length,
-        sram: sram.length,
+        middle: rest.middle,
+        end: rest.end,
         back,
     }
 }

@@ -39,8 +39,8 @@ fn changes_of(line: &[u8], at: usize, one: &[u32], two: &[u32], spare: &mut [u32
 
 // An answer with changes after it: how many there are, and then each.
 fn with_all(answer: Answer, changes: Answer) -> Answer
-    requires { ⌜ (answer .count ≤ 16) × (changes .count ≤ 15) ⌝ }
-    ensures { λ r. ⌜ r .count ≤ 32 ⌝ }
+    requires { ⌜ (answer .count ≤ 17) × (changes .count ≤ 15) ⌝ }
+    ensures { λ r. ⌜ r .count ≤ 36 ⌝ }
 {
     let words = changes.words;
     let mut longer = answer.with((changes.count / 3) as u32);
@@ -61,10 +61,10 @@ pub fn with_changes(
     two: &[u32],
     spare: &mut [u32],
 ) -> Answer
-    requires { ⌜ answer .count ≤ 15 ⌝ }
+    requires { ⌜ answer .count ≤ 17 ⌝ }
     requires { ⌜ Room (now one) (now spare) ⌝ }
     requires { ⌜ Room (now two) (now spare) ⌝ }
-    ensures { λ r. ⌜ r .count ≤ 32 ⌝ }
+    ensures { λ r. ⌜ r .count ≤ 36 ⌝ }
 {
     if answer.count == 1 {
         return answer;

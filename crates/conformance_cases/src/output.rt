@@ -55,7 +55,7 @@ fn put_number(out: &mut [u8], used: usize, number: u32) -> usize
 // The numbers of an answer after its first, each after a blank.
 fn put_rest(out: &mut [u8], used: usize, answer: Answer) -> usize
     requires { ⌜ Used (now out) used ⌝ }
-    requires { ⌜ answer .count ≤ 32 ⌝ }
+    requires { ⌜ answer .count ≤ 36 ⌝ }
     ensures { λ r. ⌜ Used (now (out .exit)) r ⌝ }
 {
     let words = answer.words;
@@ -72,7 +72,7 @@ fn put_rest(out: &mut [u8], used: usize, answer: Answer) -> usize
 // An answer on a line of its own.
 pub fn put_answer(out: &mut [u8], used: usize, answer: Answer) -> usize
     requires { ⌜ Used (now out) used ⌝ }
-    requires { ⌜ answer .count ≤ 32 ⌝ }
+    requires { ⌜ answer .count ≤ 36 ⌝ }
     ensures { λ r. ⌜ Used (now (out .exit)) r ⌝ }
 {
     if answer.count == 0 {

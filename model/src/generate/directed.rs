@@ -13,9 +13,12 @@ mod resets;
 mod rows;
 mod singles;
 mod start_ups;
+mod starts;
 mod steps;
 mod swaps;
 mod tears;
+mod turns;
+mod updates;
 
 pub use orders::ordered;
 
@@ -33,7 +36,7 @@ const fn subject(name: &'static str, make: fn() -> Vec<Case>) -> Subject {
     Subject { name, make }
 }
 
-pub const SUBJECTS: [Subject; 15] = [
+pub const SUBJECTS: [Subject; 17] = [
     subject("rows", rows::cases),
     subject("reads", reads::cases),
     subject("launches", launches::cases),
@@ -49,6 +52,8 @@ pub const SUBJECTS: [Subject; 15] = [
     subject("impossible", impossible::cases),
     subject("pages", pages::cases),
     subject("protection", protection::cases),
+    subject("starts", starts::cases),
+    subject("turns", turns::cases),
 ];
 
 /// The cases of every subject; one that several subjects make stands with the first of them.

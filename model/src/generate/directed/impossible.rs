@@ -174,5 +174,7 @@ fn every_call(cases: &mut Vec<Case>) {
         cases.push(step(&SMALL, device, &banks, &[]));
         cases.push(reset(&SMALL, device, &banks, &[], 2, [ALL_ONES; 4]));
         cases.push(start_up(&SMALL, device));
+        cases.push(update_start(&SMALL, device, &banks, &banks[0]));
+        cases.push(turn(&SMALL, device, &banks, &banks[0], &[], 0));
     }
 }

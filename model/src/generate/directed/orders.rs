@@ -4,7 +4,9 @@ use crate::cases::Case;
 use crate::device::*;
 use crate::geometry::{ALL_ONES, LOWER_BOOT, LOWER_PROGRAM, SRAM_LIMIT, UPPER_BOOT};
 use crate::list::List;
+use crate::sequence::word_of;
 use crate::store::{PLAIN, SET};
+use crate::update::total;
 
 use super::parts::*;
 
@@ -47,9 +49,52 @@ pub fn ordered() -> Vec<(u32, Case)> {
         ),
         combined(torn, &[GEOMETRY, MEMORY, DEVICE, (7, &KINDS)]),
         combined(start_up(&SMALL, idle()), &[GEOMETRY, DEVICE, RUNNING]),
+        update_starts(),
+        turns(),
     ]
     .concat()
 }
+
+fn update_starts() -> Vec<(u32, Case)> {
+    let banks = blank(&SMALL);
+    let causes = [
+        GEOMETRY,
+        (2, &[longer, image_shorter]),
+        (3, &[key_step_four]),
+        (5, &[runs_in_boot_pages]),
+        (10, &[other_word_zero, swaps_differ]),
+        (11, &[last_sequence]),
+        (12, &[upper_locked, region_protected]),
+    ];
+    combined(
+        update_start(&SMALL, idle(), &banks, &vec![0; banks[0].len()]),
+        &causes,
+    )
+}
+
+/// A place past the total has no action, so that neither 5 nor 6 applies beside 13.
+fn turns() -> Vec<(u32, Case)> {
+    let banks = blank(&SMALL);
+    let image = vec![0; banks[0].len()];
+    let memory: Cause = (2, &[longer, second_shorter, image_shorter, long_fourth]);
+    let store = turn(&SMALL, idle(), &banks, &image, &[], 0);
+    let running = running(4, UPPER_BOOT, 0);
+    let step = turn(&SMALL, running, &banks, &image, &[], FIRST_STEP);
+    let past: Cause = (13, &[place_past, place_far]);
+    [
+        combined(
+            store.clone(),
+            &[GEOMETRY, memory, DEVICE, (5, &[runs_in_boot_pages])],
+        ),
+        combined(step.clone(), &[GEOMETRY, memory, DEVICE, IDLE]),
+        combined(store, &[GEOMETRY, memory, DEVICE, past]),
+        combined(step, &[GEOMETRY, memory, DEVICE, past]),
+    ]
+    .concat()
+}
+
+/// The place of an update's first flash step.
+const FIRST_STEP: u32 = 19;
 
 /// Every choice of declines, with one change for each of them.
 fn combined(base: Case, causes: &[Cause]) -> Vec<(u32, Case)> {
@@ -80,10 +125,10 @@ const ADDRESSES: [Change; 2] = [outside, unaligned];
 const PAGES: [Change; 2] = [page_past, page_far];
 const KINDS: [Change; 2] = [kind_three, kind_far];
 
-/// The banks get the length that three quads per row would ask for.
+/// Banks and image get the length that three quads per row would ask for.
 fn three_quads(case: &mut Case) {
     case.geometry[0] = 3;
-    for list in case.lists.iter_mut().take(2) {
+    for list in bank_lists(case) {
         list.length *= 3;
     }
 }
@@ -98,6 +143,14 @@ fn second_shorter(case: &mut Case) {
 
 fn long_sram(case: &mut Case) {
     case.lists[2] = List::from_words(&vec![0; SRAM_LIMIT + 1]);
+}
+
+fn image_shorter(case: &mut Case) {
+    case.lists[2].length -= 1;
+}
+
+fn long_fourth(case: &mut Case) {
+    case.lists[3] = List::from_words(&vec![0; SRAM_LIMIT + 1]);
 }
 
 fn key_step_four(case: &mut Case) {
@@ -124,6 +177,12 @@ fn key_form(case: &mut Case) {
 
 fn runs(case: &mut Case) {
     case.device.set_con(WR | WRERR | 5);
+}
+
+/// NVMOP 4 in a boot page, which PWP does not concern.
+fn runs_in_boot_pages(case: &mut Case) {
+    case.device.set_con(WR | WRERR | 4);
+    case.device.registers[NVMADDR] = UPPER_BOOT;
 }
 
 fn idles(case: &mut Case) {
@@ -160,5 +219,38 @@ fn kind_three(case: &mut Case) {
 }
 
 fn kind_far(case: &mut Case) {
+    case.numbers[0] = ALL_ONES;
+}
+
+fn set_word(list: &mut List, word: u32) {
+    let index = SMALL.sequence_index();
+    list.pairs = vec![(index, word)];
+}
+
+fn other_word_zero(case: &mut Case) {
+    set_word(&mut case.lists[1], 0);
+}
+
+fn swaps_differ(case: &mut Case) {
+    case.device.set_con(PFSWAP);
+}
+
+fn last_sequence(case: &mut Case) {
+    set_word(&mut case.lists[0], word_of(65_535));
+}
+
+fn upper_locked(case: &mut Case) {
+    case.device.registers[NVMBWP] &= !UBWPULOCK;
+}
+
+fn region_protected(case: &mut Case) {
+    case.device.registers[NVMPWP] |= SMALL.region_bytes();
+}
+
+fn place_past(case: &mut Case) {
+    case.numbers[0] = total(&SMALL) + 1;
+}
+
+fn place_far(case: &mut Case) {
     case.numbers[0] = ALL_ONES;
 }

@@ -242,3 +242,34 @@ pub fn reset(
     case.numbers.extend(mask);
     case
 }
+
+pub fn update_start(geometry: &Geometry, device: Device, banks: &Pair, image: &[u32]) -> Case {
+    let mut case = case(Call::UpdateStart, geometry, device);
+    lists(&mut case, banks);
+    case.lists.push(List::from_words(image));
+    case
+}
+
+pub fn turn(
+    geometry: &Geometry,
+    device: Device,
+    banks: &Pair,
+    image: &[u32],
+    sram: &[u32],
+    place: u32,
+) -> Case {
+    let mut case = update_start(geometry, device, banks, image);
+    case.call = Call::Turn;
+    case.lists.push(List::from_words(sram));
+    case.numbers = vec![place];
+    case
+}
+
+/// The lists that are as long as a bank: all but the SRAM.
+pub fn bank_lists(case: &mut Case) -> &mut [List] {
+    let count = match case.call {
+        Call::Step | Call::Reset | Call::Turn => case.lists.len() - 1,
+        _ => case.lists.len(),
+    };
+    &mut case.lists[..count]
+}

@@ -39,8 +39,9 @@ fn numbers(cases: &mut Vec<Case>) {
 }
 
 /// One call of each kind that decline 1 concerns, accepted on small banks.
-fn accepted() -> [Case; 8] {
+fn accepted() -> [Case; 10] {
     let (banks, running) = (blank(&SMALL), running(4, LOWER_PROGRAM, 0));
+    let image = vec![0; banks[0].len()];
     [
         store(&SMALL, idle(), NVMADDR, PLAIN, 1),
         register_read(&SMALL, idle(), 2),
@@ -50,10 +51,12 @@ fn accepted() -> [Case; 8] {
         step(&SMALL, running, &banks, &[]),
         reset(&SMALL, running, &banks, &[], 0, [ALL_ONES; 4]),
         start_up(&SMALL, idle()),
+        update_start(&SMALL, idle(), &banks, &image),
+        turn(&SMALL, idle(), &banks, &image, &[], 0),
     ]
 }
 
-/// Numbers just outside, with banks as long as they would ask for.
+/// Numbers just outside, with banks and an image as long as they would ask for.
 fn numbers_of_each_call(cases: &mut Vec<Case>) {
     for numbers in [
         [0, 1, 1],
@@ -66,7 +69,7 @@ fn numbers_of_each_call(cases: &mut Vec<Case>) {
         for mut case in accepted() {
             case.geometry = numbers;
             let words = ((numbers[1] + numbers[2]) * 32 * numbers[0]) as usize;
-            for list in case.lists.iter_mut().take(2) {
+            for list in bank_lists(&mut case) {
                 list.length = words;
                 list.pairs.retain(|(index, _)| *index < words);
             }
@@ -75,7 +78,7 @@ fn numbers_of_each_call(cases: &mut Vec<Case>) {
     }
 }
 
-/// One bank a word short, a word long, empty, a page short or long, or as long as if Q were 1.
+/// One bank, or the image, a word short, a word long, empty, a page short or long, or as long as if Q were 1.
 fn bank_lengths(geometry: &Geometry, cases: &mut Vec<Case>) {
     let (right, page) = (geometry.bank_words(), geometry.page_words());
     let unscaled = right / geometry.row_quads;
@@ -92,11 +95,11 @@ fn bank_lengths(geometry: &Geometry, cases: &mut Vec<Case>) {
             continue;
         }
         case.geometry = geometry.numbers();
-        let banks = case.lists.len().min(2);
-        for list in case.lists.iter_mut().take(banks) {
+        let lent = bank_lists(&mut case);
+        for list in lent.iter_mut() {
             list.length = right as usize;
         }
-        for bank in 0..banks {
+        for bank in 0..lent.len() {
             for length in each_once(&lengths) {
                 let mut other = case.clone();
                 let list = &mut other.lists[bank];
@@ -119,9 +122,11 @@ fn sram_lengths(cases: &mut Vec<Case>) {
         65_536,
     ] {
         for mut case in accepted() {
-            if matches!(case.call, Call::Step | Call::Reset) {
-                case.lists[2].length = length;
-                case.lists[2].fill = 0;
+            if matches!(case.call, Call::Step | Call::Reset | Call::Turn) {
+                if let Some(sram) = case.lists.last_mut() {
+                    sram.length = length;
+                    sram.fill = 0;
+                }
                 cases.push(case);
             }
         }

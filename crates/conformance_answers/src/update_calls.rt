@@ -1,0 +1,60 @@
+// The update's calls. An image stands in the spare buffer, and the SRAM of a turn after it.
+// What asks for room in the spare buffer is no call of the device: its callers show it.
+ghost use Prim.Native.Nat.{_≤_};
+ghost use Rattle.conformance_cases.specs.Cases.{Lent, Parted};
+use crate::records::device_of;
+use crate::records::geometry_of;
+use crate::records::with_device;
+use conformance_cases::answer::Answer;
+use conformance_cases::changes::with_changes;
+use update::start::start;
+use update::turn::Turned;
+use update::turn::turn;
+
+pub fn update_start_answer(front: [u32; 20], one: &[u32], two: &[u32], image: &[u32]) -> Answer
+    ensures { λ r. ⌜ r .count ≤ 20 ⌝ }
+{
+    let g = geometry_of(front);
+    let d = device_of(front);
+    let given = start(g, d, one, two, image);
+    let decline = given.decline;
+    let first = Answer::only(decline.number());
+    if !decline.is_accepted() {
+        return first;
+    }
+    first.with(given.place).with(given.total)
+}
+
+// What a turn gives but for the changes.
+fn turned(given: Turned) -> Answer
+    ensures { λ r. ⌜ r .count ≤ 17 ⌝ }
+{
+    let decline = given.decline;
+    let first = Answer::only(decline.number());
+    if !decline.is_accepted() {
+        return first;
+    }
+    let done = first.with_flag(given.done);
+    with_device(done, given.device).with(given.place).with_flag(given.event)
+}
+
+pub fn turn_answer(
+    line: &[u8],
+    lists: usize,
+    front: [u32; 20],
+    one: &mut [u32],
+    two: &mut [u32],
+    spare: &mut [u32],
+    middle: usize,
+    end: usize,
+    place: u32,
+) -> Answer
+    requires { ⌜ Lent (now one) (now two) (now spare) end ⌝ }
+    requires { ⌜ Parted (now spare) middle end ⌝ }
+    ensures { λ r. ⌜ r .count ≤ 36 ⌝ }
+{
+    let g = geometry_of(front);
+    let d = device_of(front);
+    let given = turn(g, d, one, two, &spare[..middle], &spare[middle..end], place);
+    with_changes(turned(given), line, lists, one, two, spare)
+}

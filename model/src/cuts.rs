@@ -1,0 +1,238 @@
+//! Whole updates cut at every place: what the program `cuts` prints.
+
+use crate::device::{Device, BFSWAP, NVMCON, PFSWAP};
+use crate::flash::reset;
+use crate::geometry::{Banks, Geometry, ALL_ONES};
+use crate::store::start_up;
+use crate::update::{turn, update_start};
+use crate::Refusal;
+
+/// A sign before power-on: its geometry, the index of its old bank, and the sequence words of the old bank and the other.
+struct Sign {
+    numbers: [u32; 3],
+    old: usize,
+    own: u32,
+    other: u32,
+}
+
+const SIGNS: [Sign; 4] = [
+    sign([1, 1, 1], 0, 0xFFF8_0007, 0xFFF9_0006),
+    sign([1, 1, 1], 1, 0xFFF8_0007, 0x8000_8000),
+    sign([2, 2, 1], 0, 0x0001_FFFE, ALL_ONES),
+    sign([2, 2, 1], 1, 0x7FFF_8000, 0x8000_7FFF),
+];
+
+const fn sign(numbers: [u32; 3], old: usize, own: u32, other: u32) -> Sign {
+    Sign {
+        numbers,
+        old,
+        own,
+        other,
+    }
+}
+
+const MASKS: [[u32; 4]; 6] = [
+    [0; 4],
+    [ALL_ONES; 4],
+    [0x5555_5555; 4],
+    [0xAAAA_AAAA; 4],
+    [0x1234_5678, 0x9ABC_DEF0, 0x0F1E_2D3C, 0x4B5A_6978],
+    [ALL_ONES, 0, 0, 0],
+];
+
+/// What an update works on.
+#[derive(Clone)]
+struct State {
+    device: Device,
+    banks: [Vec<u32>; 2],
+}
+
+impl State {
+    fn banks(&mut self) -> Banks<'_> {
+        let [one, two] = &mut self.banks;
+        Banks { one, two }
+    }
+
+    /// A reset and a start-up; the number of the bank that both swaps put lower, 0 where there is none.
+    fn restart(&mut self, numbers: [u32; 3], kind: u32, mask: [u32; 4]) -> u32 {
+        let device = self.device;
+        let after = reset(numbers, device, &mut self.banks(), &[], kind, mask);
+        match after.and_then(|device| start_up(numbers, device)) {
+            Ok(device) => self.device = device,
+            Err(_) => return 0,
+        }
+        match self.device.registers[NVMCON] & (BFSWAP | PFSWAP) {
+            0 => 1,
+            swaps if swaps == BFSWAP | PFSWAP => 2,
+            _ => 0,
+        }
+    }
+}
+
+/// A sum of words in their order, modulo a prime above every word.
+#[derive(Clone, Copy)]
+struct Sum(u64);
+
+impl Sum {
+    fn add(&mut self, words: &[u32]) {
+        for word in words {
+            self.0 = (self.0 * 1_000_003 + u64::from(*word)) % 4_294_967_311;
+        }
+    }
+
+    fn add_device(&mut self, device: &Device) {
+        self.add(&device.registers);
+        self.add(&[device.key_step, device.step_number]);
+    }
+}
+
+/// The sums of a line.
+#[derive(Clone, Copy)]
+struct Sums {
+    state: Sum,
+    devices: Sum,
+    cut: [Sum; 2],
+    again: [Sum; 2],
+}
+
+impl Sums {
+    fn of(state: &State) -> Sums {
+        let mut sum = Sum(0);
+        sum.add_device(&state.device);
+        sum.add(&state.banks[0]);
+        sum.add(&state.banks[1]);
+        Sums {
+            state: sum,
+            devices: Sum(0),
+            cut: [Sum(0); 2],
+            again: [Sum(0); 2],
+        }
+    }
+
+    fn numbers(&self) -> [u64; 6] {
+        let ([one, two], [again_one, again_two]) = (self.cut, self.again);
+        [self.state, self.devices, one, two, again_one, again_two].map(|sum| sum.0)
+    }
+}
+
+/// The words of a bank or image before power-on.
+fn words(geometry: &Geometry, seed: u64) -> Vec<u32> {
+    (1..=u64::from(geometry.bank_words()))
+        .map(|number| (number * 2_654_435_761 + seed * 987_654_321) as u32)
+        .collect()
+}
+
+/// All lines.
+pub fn cuts() -> String {
+    SIGNS.iter().map(lines).collect()
+}
+
+fn line(numbers: &[u64]) -> String {
+    let parts: Vec<String> = numbers.iter().map(u64::to_string).collect();
+    parts.join(" ") + "\n"
+}
+
+fn refusal_number(refusal: Refusal) -> u64 {
+    u64::from(refusal.number())
+}
+
+/// The lines of a sign: the first of the sign itself, then one for each place up to the total.
+fn lines(sign: &Sign) -> String {
+    let Ok(geometry) = Geometry::new(sign.numbers) else {
+        return String::new();
+    };
+    let mut banks = [words(&geometry, 1), words(&geometry, 2)];
+    banks[sign.old][geometry.sequence_index()] = sign.own;
+    banks[1 - sign.old][geometry.sequence_index()] = sign.other;
+    let image = words(&geometry, 3);
+    let mut state = State {
+        device: Device::reset_values(),
+        banks,
+    };
+    let runs = state.restart(sign.numbers, 0, [0; 4]);
+    let device = state.device;
+    let start = update_start(sign.numbers, &device, &state.banks(), &image);
+    let (answer, total) = match start {
+        Ok((_, total)) => (0, total),
+        Err(refusal) => (refusal_number(refusal), 0),
+    };
+    let [row_quads, boot_pages, program_pages] = sign.numbers.map(u64::from);
+    let first = [row_quads, boot_pages, program_pages];
+    let mut text = line(&[&first[..], &[u64::from(runs), answer, u64::from(total)]].concat());
+    for place in 0..=total {
+        let numbers = place_numbers(sign, &image, &mut state, place);
+        text.push_str(&line(&numbers));
+    }
+    text
+}
+
+/// The numbers of a place's line; the turn of the place is done.
+fn place_numbers(sign: &Sign, image: &[u32], state: &mut State, place: u32) -> Vec<u64> {
+    let mut sums = Sums::of(state);
+    let mut banks = Vec::new();
+    for kind in 0..3 {
+        for mask in MASKS {
+            banks.extend(cut(sign, image, state.clone(), (kind, mask), &mut sums));
+        }
+    }
+    let device = state.device;
+    let turned = turn(sign.numbers, device, &mut state.banks(), image, &[], place);
+    let answer = match turned {
+        Ok(after) => {
+            state.device = after.device;
+            [0, u64::from(after.done), u64::from(after.event)]
+        }
+        Err(refusal) => [refusal_number(refusal), 0, 0],
+    };
+    let parts = [&[u64::from(place)], &banks[..], &sums.numbers(), &answer];
+    parts.concat()
+}
+
+/// One cut: the bank that runs then, the answer of a second start, and the bank that runs after the second update.
+fn cut(
+    sign: &Sign,
+    image: &[u32],
+    mut state: State,
+    (kind, mask): (u32, [u32; 4]),
+    sums: &mut Sums,
+) -> [u64; 3] {
+    let runs = state.restart(sign.numbers, kind, mask);
+    sums.devices.add_device(&state.device);
+    for bank in 0..2 {
+        sums.cut[bank].add(&state.banks[bank]);
+    }
+    // "Where B runs the old bank, the same update is accepted again"
+    if runs as usize != sign.old + 1 {
+        return [u64::from(runs), 0, 0];
+    }
+    let device = state.device;
+    let start = update_start(sign.numbers, &device, &state.banks(), image);
+    let total = match start {
+        Ok((_, total)) => total,
+        Err(refusal) => return [u64::from(runs), refusal_number(refusal), 0],
+    };
+    let after = again(sign, image, &mut state, total, sums);
+    [u64::from(runs), 0, u64::from(after)]
+}
+
+/// The whole update from a start's state, then power-on and start-up; the bank that runs then, 0 where it isn't done.
+fn again(sign: &Sign, image: &[u32], state: &mut State, total: u32, sums: &mut Sums) -> u32 {
+    let (mut place, mut events, mut done) = (0, 0, false);
+    for _ in 0..=total {
+        let device = state.device;
+        let Ok(after) = turn(sign.numbers, device, &mut state.banks(), image, &[], place) else {
+            break;
+        };
+        (state.device, place, done) = (after.device, after.place, after.done);
+        events += u32::from(after.event);
+    }
+    sums.devices.add_device(&state.device);
+    sums.devices.add(&[place, events]);
+    for bank in 0..2 {
+        sums.again[bank].add(&state.banks[bank]);
+    }
+    if !done {
+        return 0;
+    }
+    state.restart(sign.numbers, 0, [0; 4])
+}
