@@ -15,3 +15,4 @@ pub mod StandsLaws
 pub mod CutLaws
 pub mod StartLaws
 pub mod PowerFail
+pub mod ActionLaws
