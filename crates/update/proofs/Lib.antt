@@ -16,3 +16,4 @@ pub mod CutLaws
 pub mod StartLaws
 pub mod PowerFail
 pub mod ActionLaws
+pub mod Bench

@@ -2,3 +2,4 @@ pub mod Actions
 pub mod Start
 pub mod Turn
 pub mod PowerFail
+pub mod Bench
