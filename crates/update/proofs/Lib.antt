@@ -17,3 +17,4 @@ pub mod StartLaws
 pub mod PowerFail
 pub mod ActionLaws
 pub mod Bench
+pub mod Example

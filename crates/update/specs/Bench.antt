@@ -16,7 +16,8 @@ use Rattle.machine.specs.Machine.{State, state}
 use Rattle.update.specs.Actions.{totalOf}
 use Rattle.update.specs.Start.{startOf}
 
--- the bench: "Q=B=P=1, all ones but bank 1's sequence word", and here bank 2's too, "after power-on", which leaves BFSWAP and PFSWAP at 0
+-- the bench: "Q=B=P=1, all ones but bank 1's sequence word", and here bank 2's too, "after power-on" (`bench-power-on` of proofs/Bench: any
+-- power-on of the banks below gives this device)
 abbrev pub smallest : Geometry
 smallest = record { q = 1; b = 1; p = 1 }
 

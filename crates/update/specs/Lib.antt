@@ -3,3 +3,4 @@ pub mod Start
 pub mod Turn
 pub mod PowerFail
 pub mod Bench
+pub mod Example
