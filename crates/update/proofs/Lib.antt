@@ -18,3 +18,4 @@ pub mod PowerFail
 pub mod ActionLaws
 pub mod Bench
 pub mod Example
+pub mod RunLaws

@@ -4,3 +4,4 @@ pub mod Turn
 pub mod PowerFail
 pub mod Bench
 pub mod Example
+pub mod Run
