@@ -17,3 +17,7 @@ pub mod CutLaws
 pub mod StartLaws
 pub mod PowerFail
 pub mod FormLaws
+pub mod ActionLaws
+pub mod Bench
+pub mod Example
+pub mod RunLaws
