@@ -130,8 +130,8 @@ fn applied(d: Device, number: u32, w: u32) -> Device
     e
 }
 
-// A store that is not declined.
-fn store_accepted(g: Geometry, d: Device, number: u32, form: u32, value: u32) -> Stored
+// A store that is not declined. No call of the device: its callers judge the declines first.
+pub fn store_accepted(g: Geometry, d: Device, number: u32, form: u32, value: u32) -> Stored
     requires { ⌜ InRange g ⌝ }
     ensures { λ r. ⌜ r ≡ storeAcceptedOf g d number form value ⌝ }
 {

@@ -87,8 +87,8 @@ fn tear(g: Geometry, d: Device, one: &mut [u32], two: &mut [u32], sram: &[u32], 
     apply(one, two, e.writes, e.second, e.quad, words);
 }
 
-// BFSWAP by the comparison of the two banks.
-fn compared(g: Geometry, one: &[u32], two: &[u32]) -> bool
+// BFSWAP by the comparison of the two banks. No call of the device: its callers judge the lengths first.
+pub fn compared(g: Geometry, one: &[u32], two: &[u32]) -> bool
     requires { ⌜ InRange g ⌝ }
     requires { ⌜ (length (now one) ≡ bankWordsOf g) × (length (now two) ≡ bankWordsOf g) ⌝ }
     ensures { λ r. ⌜ r ≡ comparedOf g (now (one .entry)) (now (two .entry)) ⌝ }

@@ -1,3 +1,4 @@
+pub mod TestLaws
 pub mod WordLaws
 pub mod TargetLaws
 pub mod HeadLaws
@@ -15,3 +16,8 @@ pub mod StandsLaws
 pub mod CutLaws
 pub mod StartLaws
 pub mod PowerFail
+pub mod FormLaws
+pub mod ActionLaws
+pub mod Bench
+pub mod Example
+pub mod RunLaws

@@ -4,6 +4,7 @@ use mathlib.Core.Path.{_≡_, refl, sym, ap, _∙_}
 use mathlib.Core.Bool.{Bool, true, false}
 use mathlib.Core.List.{List, [], _∷_, _++_}
 use Prim.Native.Nat.{ℕ, zero, suc, _+_, _-_, _*_, _/_, _%_, _≤_, _<_}
+use native.Mathlib.Nat.{not-suc-le-zero, div-lt-iff-lt-mul, le-div-iff-mul-le}
 use native.Mathlib.Omega.{arith}
 use lib.Arith.{digits-lt, digits-div, digits-mod}
 use lib.Dec.{ltb}
@@ -11,12 +12,13 @@ use lib.ListN.{length, getD, List·getD-append}
 use lib.Seq.{getD-append-add}
 use borrow.Author.Tests.{lt-ltb, le-ltb}
 use Rattle.words.specs.Word.{pick}
+use Rattle.words.specs.Quad.{wordAt}
 use Rattle.geometry.specs.declared.banks.Geometry.{Geometry}
 use Rattle.geometry.specs.Banks.{pagesOf, pageQuadsOf}
 use Rattle.access.specs.StartUp.{Access, access}
 use Rattle.update.specs.declared.actions.Action.{Action}
 use Rattle.update.specs.declared.actions.Action.the-variants.{Store, Step}
-use Rattle.update.specs.Actions.{stored, prologue, clearingStores, unprotectingStores, endStores, pageStores, quadStores, quadBlock, erasedPageOf, programmedQuadOf, newQuadOf, bankQuadsOf, totalOf, pageActions, programmingFrom, pageActionOf, quadActionOf, actionAtOf}
+use Rattle.update.specs.Actions.{stored, prologue, launchStores, upperAddressOf, clearingStores, unprotectingStores, endStores, pageStores, quadStores, quadBlock, erasedPageOf, programmedQuadOf, newQuadOf, bankQuadsOf, totalOf, pageActions, programmingFrom, pageActionOf, quadActionOf, actionAtOf}
 use Rattle.update.proofs.StoringLaws.{none, stored-at}
 
 -- a store as an action
@@ -85,3 +87,53 @@ module _ (g : Geometry) (image : List ℕ) (w : ℕ) where
   pub quad-end : (i : ℕ) → actionAtOf g image w (programmingFrom g + (i * 13 + 12)) ≡ Store 0 1 0x4000
   unfolding quadActionOf
   quad-end i = quad-action i 12 (omega arith)
+
+-- ---- a place by division, as the code finds it
+pub shifted : {A : Type 0} (x : A) (l : List A) (d : A) (k : ℕ) → 0 < k → getD l (k - 1) d ≡ getD (x ∷ l) k d
+shifted x l d zero h = absurd (not-suc-le-zero h)
+shifted x l d (suc k) h = let e : suc k - 1 ≡ k = omega arith in rw e
+
+pub launch-of-quad : (g : Geometry) (j : ℕ) (words : List ℕ) (k : ℕ) → 5 ≤ k → k < 11 → getD (stored (launchStores 2)) (k - 5) Step ≡ quadActionOf g j words k
+unfolding quadActionOf
+launch-of-quad g j words k lo hi =
+    let first = stored (access 2 0 (upperAddressOf g j) ∷ access 3 0 (wordAt words 0) ∷ access 4 0 (wordAt words 1) ∷ access 5 0 (wordAt words 2) ∷ access 6 0 (wordAt words 3) ∷ []) in
+    let e : 5 + (k - 5) ≡ k = omega arith in
+    sym (List·getD-append (stored (launchStores 2)) (Step ∷ stored endStores) Step (k - 5) (omega arith))
+    ∙ sym (getD-append-add first (stored (launchStores 2) ++ (Step ∷ stored endStores)) (k - 5) Step)
+    ∙ ap (λ (n : ℕ). getD (quadBlock g j words) n Step) e
+
+module _ (g : Geometry) (place : ℕ) (late : 12 ≤ place) where
+  block-some : 0 < pageActions g
+  block-some = omega arith
+
+  pub in-pages : (place - 12) / pageActions g < pagesOf g → place < programmingFrom g
+  in-pages l = omega (arith, div-lt-iff-lt-mul {x = place - 12} {y = pagesOf g} block-some .0 l)
+
+  pub past-pages : pagesOf g ≤ (place - 12) / pageActions g → programmingFrom g ≤ place
+  past-pages l = omega (arith, le-div-iff-mul-le {x = pagesOf g} {y = place - 12} block-some .0 l)
+
+-- ---- a number by what it is not
+pub later : {k n : ℕ} → n ≤ k → (k ≡ n → ⊥) → suc n ≤ k
+later l ne = omega arith
+
+pub only : {k n : ℕ} → n ≤ k → k < suc n → k ≡ n
+only l m = omega arith
+
+pub earlier : {k n : ℕ} → k < suc n → (k ≡ n → ⊥) → k < n
+earlier l ne = omega arith
+
+pub some : {k : ℕ} → (k ≡ 0 → ⊥) → 1 ≤ k
+some ne = omega arith
+
+pub launch-of-page : (g : Geometry) (page k : ℕ) → 0 < k → getD (stored (launchStores 4)) (k - 1) Step ≡ getD (stored (pageStores g page)) k Step
+launch-of-page g page k h = shifted (Store 2 0 (upperAddressOf g (page * pageQuadsOf g))) (stored (launchStores 4)) Step k h
+
+pub five-less : {k : ℕ} → 5 ≤ k → k < 11 → k - 5 < 6
+five-less lo hi = omega arith
+
+-- what is left of a place past the pages
+pub rest-place : (g : Geometry) (place : ℕ) → place - 12 - pagesOf g * pageActions g ≡ place - programmingFrom g
+rest-place g place = omega arith
+
+pub rest-below : (g : Geometry) (place : ℕ) → programmingFrom g ≤ place → place < totalOf g → (place - programmingFrom g) / 13 < bankQuadsOf g
+rest-below g place l m = div-lt-iff-lt-mul {k = 13} {x = place - programmingFrom g} {y = bankQuadsOf g} (omega arith) .1 (omega (arith, total-place g))

@@ -230,3 +230,10 @@ module _ (g : Geometry) (image : List ℕ) (b : Bool) (old : List ℕ) (fixed : 
 
       reach : 0 < programBytesOf g
       reach = let ok = in-range g (fixed .listed) in omega (arith, mul-le-mul (ok .p-low) (ok .q-low))
+
+-- the geometry of an accepted start is in range
+pub start-range : (g : Geometry) (s : State) (words : ℕ) → acceptedOf (startDeclineOf g s words) ≡ true → InRange g
+unfolding startDeclineOf
+start-range g s words h =
+    ready g (s .device) (length (s .one) ∷ length (s .two) ∷ words ∷ []) 0
+    (neither (openingOf g (s .device) (length (s .one) ∷ length (s .two) ∷ words ∷ []) 0) _ h .0) .lent .range

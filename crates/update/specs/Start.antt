@@ -21,6 +21,7 @@ use Rattle.controller.specs.Read.{same}
 use Rattle.controller.specs.Reset.{comparedOf}
 use Rattle.controller.specs.Parts.{lowerOf}
 use Rattle.machine.specs.Machine.{State}
+use Rattle.update.specs.declared.start.Started.{Started}
 use Rattle.update.specs.Actions.{totalOf}
 
 -- the sequence word of the lower-alias bank, whose low half is t, and that of the other bank
@@ -61,10 +62,10 @@ nextExistsOf g s = not (eqb (tseqOf (lowerWordOf g s)) 65535)
 unfoldable pub upperFreeOf : Geometry → Device → Bool
 upperFreeOf g d = hasOf (d .nvmbwp .0) UBWPULOCK && ltb (pwpOf d) (programBytesOf g)
 
--- declines 1, 2, 3, 5, 10, 11 and 12
-unfoldable pub startDeclineOf : Geometry → State → List ℕ → Decline
+-- declines 1, 2, 3, 5, 10, 11 and 12, by the length of the image
+unfoldable pub startDeclineOf : Geometry → State → ℕ → Decline
 startDeclineOf g s image =
-    firstOf (openingOf g (s .device) (length (s .one) ∷ length (s .two) ∷ length image ∷ []) 0)
+    firstOf (openingOf g (s .device) (length (s .one) ∷ length (s .two) ∷ image ∷ []) 0)
     (pick (running (s .device)) Decline.Running
     (pick (sequenceAllowsOf g s)
     (pick (nextExistsOf g s)
@@ -72,17 +73,11 @@ startDeclineOf g s image =
     Decline.LastSequence)
     Decline.Sequence))
 
--- the answer to a start
-pub record Started : Type 0 where
-  pub decline : Decline
-  pub place : ℕ
-  pub total : ℕ
-
 -- "An accepted start changes nothing and gives place 0 and the total." Declined it gives 0 for both (ours)
 unfoldable pub startOf : Geometry → State → List ℕ → Started
 startOf g s image =
     record {
-      decline = startDeclineOf g s image;
+      decline = startDeclineOf g s (length image);
       place = 0;
-      total = pick (acceptedOf (startDeclineOf g s image)) (totalOf g) 0;
+      total = pick (acceptedOf (startDeclineOf g s (length image))) (totalOf g) 0;
     }

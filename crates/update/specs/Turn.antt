@@ -1,5 +1,6 @@
 -- A turn: why it is declined, and what it does. Assumes nothing.
 use Prim.Native.Nat.{ℕ, _+_}
+use mathlib.Core.Path.{_≡_}
 use mathlib.Core.Bool.{Bool, true, false}
 use mathlib.Core.List.{List, [], _∷_}
 use lib.Dec.{eqb, ltb}
@@ -12,7 +13,7 @@ use Rattle.device.specs.declared.record.Device.{Device}
 use Rattle.device.specs.Record.{running}
 use Rattle.device.specs.Opening.{openingOf}
 use Rattle.access.specs.declared.store.Stored.{Stored}
-use Rattle.access.specs.Store.{storeOf}
+use Rattle.access.specs.Store.{hasFormOf, storeOf}
 use Rattle.flash.specs.Step.{After, after, stepOf}
 use Rattle.machine.specs.Machine.{State, left}
 use Rattle.update.specs.declared.actions.Action.{Action}
@@ -57,7 +58,17 @@ performOf g s sram Step = stepOf g (s .device) (s .one) (s .two) sram
 abbrev pub performed : ℕ → After → Turning
 performed place a = turning (a .decline) false (left a) (place + 1) (a .event)
 
--- "gives that number and keeps its place"; "At the total, and only there, it says done and changes nothing."
+-- a store of a register that has its form, as every store of the list is (`actions-formed` of proofs/FormLaws)
+abbrev pub Formed : Action → Type 0
+Formed (Store r form value) = hasFormOf r form ≡ true
+Formed Step = Unit {0}
+
+-- "a turn whose action is declined (5 or 6) gives that number and keeps its place"
+unfoldable pub actOf : Geometry → State → List ℕ → ℕ → Action → Turning
+actOf g s sram place a =
+    pick (acceptedOf (actionDeclineOf (s .device) a)) (performed place (performOf g s sram a)) (turning (actionDeclineOf (s .device) a) false s place false)
+
+-- "At the total, and only there, it says done and changes nothing."
 unfoldable pub turnOf : Geometry → State → List ℕ → List ℕ → ℕ → Turning
 turnOf g s image sram place =
     pick (acceptedOf (turnDeclineOf g s image (length sram) place))

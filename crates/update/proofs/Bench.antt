@@ -1,0 +1,38 @@
+-- The bench values hold: the totals by arithmetic, the answers to a start by computation.
+-- Assumes nothing.
+use mathlib.Core.Path.{_≡_, refl}
+use Prim.Native.Nat.{ℕ}
+use Rattle.geometry.specs.Banks.{listedOf, inRangeOf}
+use Rattle.geometry.specs.Lent.{lengthsFitOf, lentDeclineOf}
+use Rattle.geometry.specs.Sequence.{complementOf, validOf, bfswapOf}
+use Rattle.device.specs.declared.record.Device.{Device}
+use Rattle.device.specs.Record.{registerOf, powerOn}
+use Rattle.device.specs.Possible.{implementedOf, possibleOf}
+use Rattle.device.specs.Opening.{openingOf}
+use Rattle.device.proofs.Bench as device-bench
+use Rattle.controller.specs.Reset.{comparedOf, resetConOf, resetDeviceOf}
+use Rattle.update.specs.Actions.{totalOf}
+use Rattle.update.specs.Start.{clashOf, sequenceAllowsOf, upperFreeOf, startDeclineOf, startOf}
+use Rattle.update.specs.Bench.{smallest, benchBank, Bench}
+
+-- any power-on of the banks of the answers gives the device of `benchState`
+abbrev PowersOn : ℕ → ℕ → Type 0
+PowersOn first second = (d : Device) → resetDeviceOf d 0 (comparedOf smallest (benchBank first) (benchBank second)) ≡ powerOn
+
+pub bench-power-on : PowersOn 0x0001_FFFE 0xFFFF_FFFF × PowersOn 0x0000_FFFF 0xFFFF_FFFF × PowersOn 0xFFFE_0001 0x0000_0000 × PowersOn 0xFFFE_0001 0xFFFF_FFFF
+unfolding complementOf validOf bfswapOf resetConOf resetDeviceOf
+bench-power-on = (λ d. refl, λ d. refl, λ d. refl, λ d. refl)
+
+pub bench : Bench
+unfolding listedOf inRangeOf lengthsFitOf lentDeclineOf complementOf validOf bfswapOf registerOf implementedOf possibleOf openingOf totalOf
+    clashOf sequenceAllowsOf upperFreeOf startDeclineOf startOf
+bench =
+    record {
+      device = device-bench.bench;
+      total-small = λ g n q. rw (n, q);
+      total-large = λ g n q. rw (n, q);
+      last-but-one = λ image e. rw e;
+      last = λ image e. rw e;
+      other-zero = λ image e. rw e;
+      other-erased = λ image e. rw e;
+    }
