@@ -1,12 +1,15 @@
 // The update's calls. An image stands in the spare buffer, and the SRAM of a turn after it.
 // What asks for room in the spare buffer is no call of the device: its callers show it.
 ghost use Prim.Native.Nat.{_≤_};
+ghost use lib.ListN.{length};
 ghost use Rattle.conformance_cases.specs.Cases.{Lent, Parted};
 use crate::records::device_of;
 use crate::records::geometry_of;
 use crate::records::with_device;
 use conformance_cases::answer::Answer;
 use conformance_cases::changes::with_changes;
+use device::record::Device;
+use geometry::banks::Geometry;
 use update::start::start;
 use update::turn::Turned;
 use update::turn::turn;
@@ -35,7 +38,26 @@ fn turned(given: Turned) -> Answer
         return first;
     }
     let done = first.with_flag(given.done);
-    with_device(done, given.device).with(given.place).with_flag(given.event)
+    with_device(done, given.device)
+        .with(given.place)
+        .with_flag(given.event)
+}
+
+// A turn whose image and SRAM stand one after the other.
+fn turn_with(
+    g: Geometry,
+    d: Device,
+    one: &mut [u32],
+    two: &mut [u32],
+    both: &[u32],
+    middle: usize,
+    place: u32,
+) -> Turned
+    requires { ⌜ middle ≤ length (now both) ⌝ }
+{
+    let image = &both[..middle];
+    let sram = &both[middle..];
+    turn(g, d, one, two, image, sram, place)
 }
 
 pub fn turn_answer(
@@ -55,6 +77,6 @@ pub fn turn_answer(
 {
     let g = geometry_of(front);
     let d = device_of(front);
-    let given = turn(g, d, one, two, &spare[..middle], &spare[middle..end], place);
+    let given = turn_with(g, d, one, two, &spare[..end], middle, place);
     with_changes(turned(given), line, lists, one, two, spare)
 }

@@ -87,15 +87,15 @@ fn put_cuts(
     one: &[u32],
     two: &[u32],
     image: &[u32],
-    cut_one: &mut [u32],
-    cut_two: &mut [u32],
+    first: &mut [u32],
+    second: &mut [u32],
 ) {
     let mut sums = Sums::of(d, one, two);
     let mut number = 0;
     while number < CUTS {
-        copy(one, cut_one);
-        copy(two, cut_two);
-        sums = put_cut(sign, d, cut_one, cut_two, image, number, sums);
+        copy(one, first);
+        copy(two, second);
+        sums = put_cut(sign, d, first, second, image, number, sums);
         number += 1;
     }
     put_sums(sums);
@@ -108,12 +108,12 @@ fn put_place(
     one: &mut [u32],
     two: &mut [u32],
     image: &[u32],
-    cut_one: &mut [u32],
-    cut_two: &mut [u32],
+    first: &mut [u32],
+    second: &mut [u32],
     place: u32,
 ) -> Device {
     put_first(place);
-    put_cuts(sign, d, one, two, image, cut_one, cut_two);
+    put_cuts(sign, d, one, two, image, first, second);
     let turned = turn_at(sign.geometry, d, one, two, image, place);
     let decline = turned.decline;
     put(decline.number() as u64);
@@ -130,17 +130,17 @@ fn put_places(
     one: &mut [u32],
     two: &mut [u32],
     image: &[u32],
-    cut_one: &mut [u32],
-    cut_two: &mut [u32],
+    first: &mut [u32],
+    second: &mut [u32],
     total: u32,
 ) {
     let mut device = d;
     let mut place = 0;
     while place < total {
-        device = put_place(sign, device, one, two, image, cut_one, cut_two, place);
+        device = put_place(sign, device, one, two, image, first, second, place);
         place += 1;
     }
-    put_place(sign, device, one, two, image, cut_one, cut_two, total);
+    put_place(sign, device, one, two, image, first, second, total);
 }
 
 // The line of a sign, and those of its places. The banks and the image are filled.
@@ -149,8 +149,8 @@ fn put_sign(
     one: &mut [u32],
     two: &mut [u32],
     image: &[u32],
-    cut_one: &mut [u32],
-    cut_two: &mut [u32],
+    first: &mut [u32],
+    second: &mut [u32],
 ) {
     let g = sign.geometry;
     let running = restart(g, power_on(), one, two, 0, mask(0));
@@ -164,7 +164,7 @@ fn put_sign(
     put(decline.number() as u64);
     put(started.total as u64);
     end_line();
-    put_places(sign, device, one, two, image, cut_one, cut_two, started.total);
+    put_places(sign, device, one, two, image, first, second, started.total);
 }
 
 // Fills the banks and the image of a sign before power-on.
@@ -185,27 +185,42 @@ fn fill_sign(sign: Sign, one: &mut [u32], two: &mut [u32], image: &mut [u32])
     }
 }
 
-// Cuts the update of a sign at every place. The arrays have room for every sign.
+// Fills the banks and the image, and cuts the update at every place.
+fn fill_and_cut(
+    sign: Sign,
+    one: &mut [u32],
+    two: &mut [u32],
+    image: &mut [u32],
+    first: &mut [u32],
+    second: &mut [u32],
+)
+    requires { ⌜ (length (now one) ≡ sign .words) × (length (now two) ≡ sign .words) × (length (now image) ≡ sign .words) ⌝ }
+    requires { ⌜ (sign .words ≤ 192) × (sign .sequence < sign .words) ⌝ }
+{
+    fill_sign(sign, one, two, image);
+    put_sign(sign, one, two, image, first, second);
+}
+
+// Cuts the update of a sign. The lists have room for every sign; a sign's own words are the first of each.
 pub fn cut_sign(
     sign: Sign,
     one: &mut [u32],
     two: &mut [u32],
     image: &mut [u32],
-    cut_one: &mut [u32],
-    cut_two: &mut [u32],
+    first: &mut [u32],
+    second: &mut [u32],
 )
     requires { ⌜ (length (now one) ≡ 192) × (length (now two) ≡ 192) × (length (now image) ≡ 192) ⌝ }
-    requires { ⌜ (length (now cut_one) ≡ 192) × (length (now cut_two) ≡ 192) ⌝ }
+    requires { ⌜ (length (now first) ≡ 192) × (length (now second) ≡ 192) ⌝ }
     requires { ⌜ (sign .words ≤ 192) × (sign .sequence < sign .words) ⌝ }
 {
     let words = sign.words;
-    fill_sign(sign, &mut one[..words], &mut two[..words], &mut image[..words]);
-    put_sign(
+    fill_and_cut(
         sign,
         &mut one[..words],
         &mut two[..words],
-        &image[..words],
-        &mut cut_one[..words],
-        &mut cut_two[..words],
+        &mut image[..words],
+        &mut first[..words],
+        &mut second[..words],
     );
 }

@@ -27,12 +27,12 @@ fn run(
     one: &mut [u32; MOST_WORDS],
     two: &mut [u32; MOST_WORDS],
     image: &mut [u32; MOST_WORDS],
-    cut_one: &mut [u32; MOST_WORDS],
-    cut_two: &mut [u32; MOST_WORDS],
+    first: &mut [u32; MOST_WORDS],
+    second: &mut [u32; MOST_WORDS],
 ) {
     let mut number = 0;
     while number < 4 {
-        cuts::cut_sign(signs::sign(number), one, two, image, cut_one, cut_two);
+        cuts::cut_sign(signs::numbered(number), one, two, image, first, second);
         number += 1;
     }
 }
@@ -41,7 +41,7 @@ fn main() {
     let mut one = [0u32; MOST_WORDS];
     let mut two = [0u32; MOST_WORDS];
     let mut image = [0u32; MOST_WORDS];
-    let mut cut_one = [0u32; MOST_WORDS];
-    let mut cut_two = [0u32; MOST_WORDS];
-    run(&mut one, &mut two, &mut image, &mut cut_one, &mut cut_two);
+    let mut first = [0u32; MOST_WORDS];
+    let mut second = [0u32; MOST_WORDS];
+    run(&mut one, &mut two, &mut image, &mut first, &mut second);
 }

@@ -48,7 +48,7 @@ fn larger(old: u32, own: u32, other: u32) -> Sign
 }
 
 // T is 7 beside 6, 7 beside a word that is not valid, 65,534 beside a blank word, and 0x8000 beside 0x7FFF.
-pub fn sign(number: u32) -> Sign
+pub fn numbered(number: u32) -> Sign
     ensures { λ r. ⌜ (r .words ≤ 192) × (r .sequence < r .words) ⌝ }
 {
     match number {
