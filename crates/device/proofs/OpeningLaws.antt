@@ -1,6 +1,6 @@
 -- What the opening tells where none of declines 1, 2 and 3 applies. Assumes nothing.
-use mathlib.Core.Path.{_≡_, refl}
-use mathlib.Core.Bool.{true}
+use mathlib.Core.Path.{_≡_, refl, sym}
+use mathlib.Core.Bool.{Bool, true, false}
 use mathlib.Core.List.{List, [], _∷_}
 use Prim.Native.Nat.{ℕ, _≤_}
 use lib.Dec.{eqb}
@@ -10,7 +10,7 @@ use Rattle.geometry.specs.declared.decline.Decline.{Decline}
 use Rattle.geometry.specs.Banks.{inRangeOf, bankWordsOf}
 use Rattle.geometry.specs.Decline.{acceptedOf}
 use Rattle.geometry.specs.Lent.{bankLengths, lengthsFitOf, lentDeclineOf}
-use Rattle.geometry.proofs.DeclineLaws.{held, neither}
+use Rattle.words.proofs.BitLaws.{true-not-false}
 use Rattle.geometry.proofs.LentLaws.{EachBank, Fits, fits}
 use Rattle.device.specs.declared.record.Device.{Device}
 use Rattle.device.specs.Possible.{possibleOf}
@@ -24,8 +24,16 @@ pub record Ready (g : Geometry) (d : Device) (lengths : List ℕ) (sram : ℕ) :
 pub ready : (g : Geometry) (d : Device) (lengths : List ℕ) (sram : ℕ) → acceptedOf (openingOf g d lengths sram) ≡ true → Ready g d lengths sram
 unfolding openingOf
 ready g d lengths sram h =
-    let s = neither (lentDeclineOf g lengths sram) _ h in
-    record { lent = fits g lengths sram (s .0); possible = held (possibleOf g d) Decline.Accepted Decline.Device refl (s .1) .0 }
+    let (lent, can) = go (acceptedOf (lentDeclineOf g lengths sram)) refl (possibleOf g d) refl h in
+    record { lent = fits g lengths sram lent; possible = can }
+  where
+    -- whichever is judged first
+    go : (a : Bool) → acceptedOf (lentDeclineOf g lengths sram) ≡ a → (c : Bool) → possibleOf g d ≡ c → acceptedOf (openingOf g d lengths sram) ≡ true
+        → (acceptedOf (lentDeclineOf g lengths sram) ≡ true) × (possibleOf g d ≡ true)
+    go true ea true ec h = (ea, ec)
+    go true ea false ec h = true-not-false (sym (simp (ea, ec) at h))
+    go false ea true ec h = true-not-false (sym (simp (ea, ec) at h))
+    go false ea false ec h = true-not-false (sym (simp (ea, ec) at h))
 
 -- the other way: a call of which each of these holds is not declined by its opening
 each-fits : (g : Geometry) (lengths : List ℕ) → EachBank g lengths → bankLengths g lengths ≡ true

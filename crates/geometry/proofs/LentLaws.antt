@@ -1,18 +1,17 @@
 -- What declines 1 and 2 tell where neither applies: the geometry is in range, each bank has its length, and the SRAM its room.
 -- Assumes nothing.
-use mathlib.Core.Path.{_≡_, refl}
-use mathlib.Core.Bool.{true, _&&_}
+use mathlib.Core.Path.{_≡_, refl, sym}
+use mathlib.Core.Bool.{Bool, true, false, _&&_}
 use mathlib.Core.List.{List, [], _∷_}
 use Prim.Native.Nat.{ℕ, _≤_}
 use lib.Dec.{eqb, leb}
 use borrow.Author.Tests.{eqb-true, leb-true}
 use Rattle.words.proofs.PickLaws.{and-both}
+use Rattle.words.proofs.BitLaws.{true-not-false}
 use Rattle.geometry.specs.declared.banks.Geometry.{Geometry}
-use Rattle.geometry.specs.declared.decline.Decline.{Decline}
 use Rattle.geometry.specs.Banks.{inRangeOf, InRange, bankWordsOf}
 use Rattle.geometry.specs.Decline.{acceptedOf}
 use Rattle.geometry.specs.Lent.{bankLengths, lengthsFitOf, lentDeclineOf}
-use Rattle.geometry.proofs.DeclineLaws.{held}
 use Rattle.geometry.proofs.SizeLaws.{in-range}
 
 -- each length is that of a bank
@@ -35,7 +34,14 @@ each-bank g (words ∷ rest) h =
 pub fits : (g : Geometry) (lengths : List ℕ) (sram : ℕ) → acceptedOf (lentDeclineOf g lengths sram) ≡ true → Fits g lengths sram
 unfolding lentDeclineOf lengthsFitOf
 fits g lengths sram h =
-    let s0 = held (inRangeOf g) _ Decline.Geometry refl h in
-    let s1 = held (lengthsFitOf g lengths sram) Decline.Accepted Decline.Length refl (s0 .1) in
-    let s2 = and-both (bankLengths g lengths) (leb sram 16384) (s1 .0) in
-    record { listed = s0 .0; range = in-range g (s0 .0); banks = each-bank g lengths (s2 .0); room = leb-true _ _ (s2 .1) }
+    let (listed, fit) = go (inRangeOf g) refl (bankLengths g lengths && leb sram 16384) refl h in
+    let each = and-both (bankLengths g lengths) (leb sram 16384) fit in
+    record { listed = listed; range = in-range g listed; banks = each-bank g lengths (each .0); room = leb-true _ _ (each .1) }
+  where
+    -- whichever is judged first
+    go : (a : Bool) → inRangeOf g ≡ a → (c : Bool) → (bankLengths g lengths && leb sram 16384) ≡ c → acceptedOf (lentDeclineOf g lengths sram) ≡ true
+        → (inRangeOf g ≡ true) × ((bankLengths g lengths && leb sram 16384) ≡ true)
+    go true ea true ec h = (ea, ec)
+    go true ea false ec h = true-not-false (sym (simp (ea, ec) at h))
+    go false ea true ec h = true-not-false (sym (simp (ea, ec) at h))
+    go false ea false ec h = true-not-false (sym (simp (ea, ec) at h))

@@ -31,11 +31,12 @@ use Rattle.update.specs.Actions.{clearingStores, unprotectingStores, pag
 use Rattle.update.specs.Start.{clashOf}
 use Rattle.update.specs.PowerFail.{Words, Cut, resetBy}
 use Rattle.update.proofs.WordLaws.{Loses, chosenOf, erased-clash, clash-loses, rises-loses, erase-rises, merge-word, torn-sequence}
-use Rattle.update.proofs.HeadLaws.{clearedDevice, cleared-rest}
+use Rattle.update.proofs.HeadLaws.{page-codes, quad-codes, clearedDevice, cleared-rest}
 use Rattle.update.proofs.StoringLaws.{prefix-rest}
 use Rattle.update.proofs.BankLaws.{quad-once, page-below, quad-below, sequence-last, sequence-blank, programmed-all, programmed-last, other-word, same-word, words-put}
 use Rattle.update.proofs.Phases.{placed, Fixed, Losing, oldWord, newWords, Finished, Phase, PageSteps, QuadStep}
 use Rattle.update.proofs.Phases.Phase.{in-clearing, in-unprotecting, in-page-stores, in-page-steps, at-page-end, in-quad-stores, at-quad-step, at-quad-end, at-total}
+use Rattle.update.proofs.NextLaws.{new-long}
 use Rattle.update.proofs.StandsLaws.{phase-place}
 use Rattle.update.proofs.PrologueTurns.{clearing-quiet, unprotecting-quiet}
 use Rattle.update.proofs.PageTurns as page
@@ -65,7 +66,7 @@ module _ (g : Geometry) (image : List ℕ) (b : Bool) (old : List ℕ) (fixed : 
 
   module _ (d : Device) (new : List ℕ) (place : ℕ) (sound : Sound g (placed b d old new)) where
     long : length new ≡ bankWordsOf g
-    long = quad.new-long g image b old fixed d new place [] sound
+    long = new-long g b d old new sound
 
     -- an operation runs, or the outcome is there
     record Idle : Type 0 where
@@ -108,7 +109,7 @@ module _ (g : Geometry) (image : List ℕ) (b : Bool) (old : List ℕ) (fixed : 
           outcome = inl (c .page .losing);
         })
     cuts (in-page-steps c) = erases c
-    cuts (at-page-end c) = idle (record { idle = rw (c .device) (page.end-idle b); outcome = inl (c .page .losing) })
+    cuts (at-page-end c) = idle (record { idle = rw (c .device) (page-codes b .end-idle); outcome = inl (c .page .losing) })
     cuts (in-quad-stores c) =
         idle
         (record {
@@ -121,7 +122,7 @@ module _ (g : Geometry) (image : List ℕ) (b : Bool) (old : List ℕ) (fixed : 
               inl (unfinished new long (c .quad .words) (sequence-blank g ok new long image (wordAt old (sequenceIndexOf g)) (c .i) (c .quad .below) (c .quad .programmed)));
         })
     cuts (at-quad-step c) = programs c
-    cuts (at-quad-end c) = idle (record { idle = rw (c .device) (quad.end-idle b); outcome = go (eq-or-lt-of-le (c .quad .below)) })
+    cuts (at-quad-end c) = idle (record { idle = rw (c .device) (quad-codes b .end-idle); outcome = go (eq-or-lt-of-le (c .quad .below)) })
       where
         go : (suc (c .i) ≡ bankQuadsOf g) ⊎ (suc (c .i) < bankQuadsOf g) → Outcome new
         go (inl e) = inr (programmed-all g ok new long image (wordAt old (sequenceIndexOf g)) (fixed .image-long) (rw e at (c .quad .programmed)))
@@ -284,7 +285,7 @@ module _ (g : Geometry) (image : List ℕ) (b : Bool) (old : List ℕ) (fixed : 
             new = putQuad new j (mergeQuadOf mask blankQuad (quadAt new j));
             long = put-length new j (mergeQuadOf mask blankQuad (quadAt new j)) ∙ long d new place sound;
             outcome = inl (erase-torn new (long d new place sound) j mask (c .page .losing));
-            state = reset-tears d new sram kind mask h (rw (c .device) (page.run-on b)) j blankQuad (page.page-writes g image b old fixed d new place sram sound c);
+            state = reset-tears d new sram kind mask h (rw (c .device) (page-codes b .on)) j blankQuad (page.page-writes g image b old fixed d new place sram sound c);
           }
       go (programs c) =
           let j = programmedQuadOf g (c .i) in
@@ -294,7 +295,7 @@ module _ (g : Geometry) (image : List ℕ) (b : Bool) (old : List ℕ) (fixed : 
             new = putQuad new j (mergeQuadOf mask words (quadAt new j));
             long = put-length new j (mergeQuadOf mask words (quadAt new j)) ∙ long d new place sound;
             outcome = rw (ap (λ (q : List ℕ). putQuad new j (mergeQuadOf mask words q)) blank) (program-torn d new place (long d new place sound) mask c);
-            state = reset-tears d new sram kind mask h (rw (c .device) (quad.quad-on b)) j words (quad.quad-writes g image b old fixed d new place sram sound c);
+            state = reset-tears d new sram kind mask h (rw (c .device) (quad-codes b .on)) j words (quad.quad-writes g image b old fixed d new place sram sound c);
           }
 
   pub cut-leaves : (s : State) (place : ℕ) (d : Device) (new : List ℕ) → s ≡ placed b d old new → Sound g s → Phase g image b old d new place → (c : Cut)

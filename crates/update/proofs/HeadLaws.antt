@@ -43,22 +43,41 @@ enabledCon b op = pick b 0x40C0 0x4000 + op
 abbrev pub runCon : Bool → ℕ → ℕ
 runCon b op = pick b 0xE0C0 0xE000 + op
 
--- what the launch of an operation asks of these numbers
+-- what a launch, the steps after it and the end ask of these numbers
 pub record Codes (b : Bool) (op : ℕ) : Type 0 where
   pub small : op < 16
+  -- with WREN
   pub enables : bitOr (restCon b op) WREN ≡ enabledCon b op
   pub enabled : hasOf (enabledCon b op) WREN ≡ true
   pub clean : hasOf (enabledCon b op) (WRERR + LVDERR) ≡ false
   pub code : enabledCon b op % 16 ≡ op
+  pub end-idle : hasOf (enabledCon b op) WR ≡ false
+  pub rests : clearOf (enabledCon b op) WREN ≡ restCon b op
+  -- while steps run
   pub launches : bitOr (enabledCon b op) (WR + WRERR) ≡ runCon b op
+  pub on : hasOf (runCon b op) WR ≡ true
+  pub boot : hasOf (runCon b op) BFSWAP ≡ b
+  pub program : hasOf (runCon b op) PFSWAP ≡ b
+  pub op-code : runCon b op % 16 ≡ op
+  pub ends : clearOf (runCon b op) (WR + WRERR) ≡ enabledCon b op
+  -- at rest
+  pub rest-wren : hasOf (restCon b op) WREN ≡ false
+  pub rest-page : mergeOf (WREN + NVMOP) 4 (restCon b op) ≡ restCon b 4
+  pub rest-quad : mergeOf (WREN + NVMOP) 2 (restCon b op) ≡ restCon b 2
+  pub rest-boot : hasOf (restCon b op) BFSWAP ≡ b
+  pub rest-program : hasOf (restCon b op) PFSWAP ≡ b
+
+pub none-codes : (b : Bool) → Codes b 0
+none-codes true = record { small = omega arith; enables = refl; enabled = refl; clean = refl; code = refl; end-idle = refl; rests = refl; launches = refl; on = refl; boot = refl; program = refl; op-code = refl; ends = refl; rest-wren = refl; rest-page = refl; rest-quad = refl; rest-boot = refl; rest-program = refl }
+none-codes false = record { small = omega arith; enables = refl; enabled = refl; clean = refl; code = refl; end-idle = refl; rests = refl; launches = refl; on = refl; boot = refl; program = refl; op-code = refl; ends = refl; rest-wren = refl; rest-page = refl; rest-quad = refl; rest-boot = refl; rest-program = refl }
 
 pub page-codes : (b : Bool) → Codes b 4
-page-codes true = record { small = omega arith; enables = refl; enabled = refl; clean = refl; code = refl; launches = refl }
-page-codes false = record { small = omega arith; enables = refl; enabled = refl; clean = refl; code = refl; launches = refl }
+page-codes true = record { small = omega arith; enables = refl; enabled = refl; clean = refl; code = refl; end-idle = refl; rests = refl; launches = refl; on = refl; boot = refl; program = refl; op-code = refl; ends = refl; rest-wren = refl; rest-page = refl; rest-quad = refl; rest-boot = refl; rest-program = refl }
+page-codes false = record { small = omega arith; enables = refl; enabled = refl; clean = refl; code = refl; end-idle = refl; rests = refl; launches = refl; on = refl; boot = refl; program = refl; op-code = refl; ends = refl; rest-wren = refl; rest-page = refl; rest-quad = refl; rest-boot = refl; rest-program = refl }
 
 pub quad-codes : (b : Bool) → Codes b 2
-quad-codes true = record { small = omega arith; enables = refl; enabled = refl; clean = refl; code = refl; launches = refl }
-quad-codes false = record { small = omega arith; enables = refl; enabled = refl; clean = refl; code = refl; launches = refl }
+quad-codes true = record { small = omega arith; enables = refl; enabled = refl; clean = refl; code = refl; end-idle = refl; rests = refl; launches = refl; on = refl; boot = refl; program = refl; op-code = refl; ends = refl; rest-wren = refl; rest-page = refl; rest-quad = refl; rest-boot = refl; rest-program = refl }
+quad-codes false = record { small = omega arith; enables = refl; enabled = refl; clean = refl; code = refl; end-idle = refl; rests = refl; launches = refl; on = refl; boot = refl; program = refl; op-code = refl; ends = refl; rest-wren = refl; rest-page = refl; rest-quad = refl; rest-boot = refl; rest-program = refl }
 
 pub quiet-op : (op : ℕ) → bit 15 op ≡ false → op < 2 ^ 32 → NoLaunch (access 0 0 op)
 unfolding hasFormOf
@@ -129,8 +148,22 @@ pub record Between (g : Geometry) (b : Bool) (d : Device) : Type 0 where
   pub reach : pwpOf d < programBytesOf g
   pub quad : length (d .nvmdata) ≡ 4
 
-shut-key : (d : Device) → d .keystep ≡ 0 → isOpen d ≡ false
-shut-key d e = rw e
+-- after the end of a block the next begins
+pub ended-between : (g : Geometry) (b : Bool) (op : ℕ) → Codes b op → (d e : Device) → AtRest g d → d ≡ withCon e (restCon b op) 0 0 → UpperFree e
+    → pwpOf e < programBytesOf g → length (e .nvmdata) ≡ 4 → Between g b d
+ended-between g b op codes d e rest same free reach quad =
+    record {
+      rest = rest;
+      shut = rw same;
+      wren = rw same (codes .rest-wren);
+      page-op = rw same (codes .rest-page);
+      quad-op = rw same (codes .rest-quad);
+      boot = rw same (codes .rest-boot);
+      program = rw same (codes .rest-program);
+      free = rw same free;
+      reach = rw same reach;
+      quad = rw same quad;
+    }
 
 -- four stores fill NVMDATA
 filled : (l : List ℕ) (a b c d : ℕ) → length l ≡ 4 → set (set (set (set l 0 a) 1 b) 2 c) 3 d ≡ a ∷ b ∷ c ∷ d ∷ []
@@ -431,21 +464,12 @@ module _ (g : Geometry) (b : Bool) (d : Device) (rest : AtRest g d) (boot : bfsw
         record {
           rest = ready-rest;
           shut = refl;
-          wren = codes b .0;
-          page-op = codes b .1;
-          quad-op = codes b .2;
-          boot = codes b .3;
-          program = codes b .4;
+          wren = none-codes b .rest-wren;
+          page-op = none-codes b .rest-page;
+          quad-op = none-codes b .rest-quad;
+          boot = none-codes b .rest-boot;
+          program = none-codes b .rest-program;
           free = λ i l. clear-bit i (d .nvmbwp .0) 0x1F ∙ ap (λ (x : Bool). bit i (d .nvmbwp .0) && not x) (ones-bit 5 i l) ∙ and-false (bit i (d .nvmbwp .0));
           reach = reach;
           quad = quad;
         }
-      where
-        codes : (t : Bool)
-            → (hasOf (restCon t 0) WREN ≡ false)
-            × (mergeOf (WREN + NVMOP) 4 (restCon t 0) ≡ restCon t 4)
-            × (mergeOf (WREN + NVMOP) 2 (restCon t 0) ≡ restCon t 2)
-            × (hasOf (restCon t 0) BFSWAP ≡ t)
-            × (hasOf (restCon t 0) PFSWAP ≡ t)
-        codes true = (refl, refl, refl, refl, refl)
-        codes false = (refl, refl, refl, refl, refl)

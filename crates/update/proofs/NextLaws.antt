@@ -38,6 +38,11 @@ use Rattle.update.proofs.StoringLaws.{Fit}
 use Rattle.update.proofs.PlaceLaws.{storeOfAccess}
 use Rattle.update.proofs.Phases.{placed, Fixed, Phase}
 
+-- the new bank is as long as a bank
+pub new-long : (g : Geometry) (b : Bool) (d : Device) (old new : List ℕ) → Sound g (placed b d old new) → length new ≡ bankWordsOf g
+new-long g true d old new sound = sound .first
+new-long g false d old new sound = sound .other
+
 module _ (g : Geometry) (image : List ℕ) (b : Bool) (old : List ℕ) where
   -- the action of a place is carried out and leads to the next phase
   pub record Goes (d : Device) (new : List ℕ) (place : ℕ) (sram : List ℕ) : Type 0 where

@@ -36,13 +36,13 @@ use Rattle.update.specs.Actions.{pageStores, endStores, upperAddressOf, 
 use Rattle.update.specs.Start.{lowerWordOf}
 use Rattle.update.proofs.WordLaws.{Loses, erased-clash, clash-loses}
 use Rattle.update.proofs.TargetLaws.{address-word, erase-effect}
-use Rattle.update.proofs.HeadLaws.{Between, restCon, enabledCon, runCon, quiet-op, quiet-plain, quiet-set, quiet-clear, quiet-keys, page-head}
+use Rattle.update.proofs.HeadLaws.{Between, restCon, enabledCon, runCon, page-codes, ended-between, quiet-op, quiet-plain, quiet-set, quiet-clear, quiet-keys, page-head}
 use Rattle.update.proofs.StoringLaws.{none, Forms, form-at, prefix-rest, storing, storedNext}
 use Rattle.update.proofs.PlaceLaws.{page-store, page-step, page-end}
 use Rattle.update.proofs.BankLaws.{erasedQuadOf, Erased, page-below, page-quad, erased-next, programmed-none, some-quads, words-put, other-word, same-word}
 use Rattle.update.proofs.Phases.{placed, Fixed, Losing, Page, pageDevice, PageStores, PageSteps, PageEnd, QuadStores, Phase}
 use Rattle.update.proofs.Phases.Phase.{in-page-stores, in-page-steps, at-page-end, in-quad-stores}
-use Rattle.update.proofs.NextLaws.{Goes, goes-store, goes-step}
+use Rattle.update.proofs.NextLaws.{new-long, Goes, goes-store, goes-step}
 
 pub blank-words : (k : ℕ) → k < 4 → wordAt blankQuad k < 2 ^ 32
 blank-words zero l = lit< tt
@@ -50,44 +50,6 @@ blank-words (suc zero) l = lit< tt
 blank-words (suc (suc zero)) l = lit< tt
 blank-words (suc (suc (suc zero))) l = lit< tt
 blank-words (suc (suc (suc (suc k)))) l = absurd (omega arith)
-
--- NVMCON while a page is erased, and after it
-pub run-on : (t : Bool) → hasOf (runCon t 4) WR ≡ true
-run-on true = refl
-run-on false = refl
-
-pub run-boot : (t : Bool) → hasOf (runCon t 4) BFSWAP ≡ t
-run-boot true = refl
-run-boot false = refl
-
-run-program : (t : Bool) → hasOf (runCon t 4) PFSWAP ≡ t
-run-program true = refl
-run-program false = refl
-
-run-op : (t : Bool) → runCon t 4 % 16 ≡ 4
-run-op true = refl
-run-op false = refl
-
-run-ends : (t : Bool) → clearOf (runCon t 4) (WR + WRERR) ≡ enabledCon t 4
-run-ends true = refl
-run-ends false = refl
-
-pub end-idle : (t : Bool) → hasOf (enabledCon t 4) WR ≡ false
-end-idle true = refl
-end-idle false = refl
-
-end-rests : (t : Bool) → clearOf (enabledCon t 4) WREN ≡ restCon t 4
-end-rests true = refl
-end-rests false = refl
-
-rest-codes : (t : Bool)
-    → (hasOf (restCon t 4) WREN ≡ false)
-    × (mergeOf (WREN + NVMOP) 4 (restCon t 4) ≡ restCon t 4)
-    × (mergeOf (WREN + NVMOP) 2 (restCon t 4) ≡ restCon t 2)
-    × (hasOf (restCon t 4) BFSWAP ≡ t)
-    × (hasOf (restCon t 4) PFSWAP ≡ t)
-rest-codes true = (refl, refl, refl, refl, refl)
-rest-codes false = (refl, refl, refl, refl, refl)
 
 module _ (g : Geometry) (image : List ℕ) (b : Bool) (old : List ℕ) (fixed : Fixed g image old) where
   ok : InRange g
@@ -158,26 +120,19 @@ module _ (g : Geometry) (image : List ℕ) (b : Bool) (old : List ℕ) (fixed : 
             })
         go (inr l) = in-page-stores (record { i = c .i; page = c .page; count = suc (c .count); few = l; here = omega (arith, c .here); device = next })
 
-    new-long : length new ≡ bankWordsOf g
-    new-long = go b (sound .first) (sound .other)
-      where
-        go : (t : Bool) → length (pick t new old) ≡ bankWordsOf g → length (pick t old new) ≡ bankWordsOf g → length new ≡ bankWordsOf g
-        go true x y = x
-        go false x y = y
-
     -- the next quad of the page is blanked
     pub page-writes : (c : PageSteps g image b old d new place)
         → effectOf g d (pick b new old) (pick b old new) sram ≡ effect false true (not b) (erasedPageOf g (c .i) * pageQuadsOf g + c .count) blankQuad
     page-writes c =
         rw (c .device)
-        (erase-effect g ok (pageDevice g image b old (c .page .from) (c .i) (runCon b 4) (c .count)) (c .page .between .free) (run-program b ∙ sym (run-boot b))
-        (pick b new old) (pick b old new) sram (erasedPageOf g (c .i)) (c .count) (page-below g ok (c .i) (c .page .below)) (c .few) (run-op b) refl refl
-        ∙ ap (λ (t : Bool). effect false true (not t) (erasedPageOf g (c .i) * pageQuadsOf g + c .count) blankQuad) (run-boot b))
+        (erase-effect g ok (pageDevice g image b old (c .page .from) (c .i) (runCon b 4) (c .count)) (c .page .between .free) (page-codes b .program ∙ sym (page-codes b .boot))
+        (pick b new old) (pick b old new) sram (erasedPageOf g (c .i)) (c .count) (page-below g ok (c .i) (c .page .below)) (c .few) (page-codes b .op-code) refl refl
+        ∙ ap (λ (t : Bool). effect false true (not t) (erasedPageOf g (c .i) * pageQuadsOf g + c .count) blankQuad) (page-codes b .boot))
 
     pub page-steps-go : length sram ≤ 16384 → PageSteps g image b old d new place → Goes g image b old d new place sram
     unfolding advanceOf lengthOf
     page-steps-go short c =
-        goes-step g image b old d new place sram (fixed .listed) sound short (rw (c .device) (run-on b))
+        goes-step g image b old d new place sram (fixed .listed) sound short (rw (c .device) (page-codes b .on))
         (rw (c .here) (page-step g image (lowerWordOf g (placed b d old new)) (c .i) (c .count) (c .page .below) (c .few)))
         quad blankQuad (page-writes c) (go (ℕ-discrete (c .count + 1) (pageQuadsOf g)))
       where
@@ -188,10 +143,10 @@ module _ (g : Geometry) (image : List ℕ) (b : Bool) (old : List ℕ) (fixed : 
         index = page-quad g ok (c .i) (c .count) (c .few)
 
         erased : Erased g (putQuad new (erasedPageOf g (c .i) * pageQuadsOf g + c .count) blankQuad) (suc (c .i * pageQuadsOf g + c .count))
-        erased = rw index at (erased-next g ok new new-long (c .i * pageQuadsOf g + c .count) (digits-lt (c .page .below) (c .few)) (c .page .erased))
+        erased = rw index at (erased-next g ok new (new-long g b d old new sound) (c .i * pageQuadsOf g + c .count) (digits-lt (c .page .below) (c .few)) (c .page .erased))
 
         losing : Losing g image b old (putQuad new (erasedPageOf g (c .i) * pageQuadsOf g + c .count) blankQuad)
-        losing = erase-loses new new-long (erasedPageOf g (c .i) * pageQuadsOf g + c .count) (c .page .losing)
+        losing = erase-loses new (new-long g b d old new sound) (erasedPageOf g (c .i) * pageQuadsOf g + c .count) (c .page .losing)
 
         page : (done : ℕ) → done ≡ suc (c .i * pageQuadsOf g + c .count) → Page g image b old (putQuad new (erasedPageOf g (c .i) * pageQuadsOf g + c .count) blankQuad) (c .i) done
         page done h = record { from = c .page .from; between = c .page .between; losing = losing; below = c .page .below; erased = rw h erased }
@@ -199,8 +154,8 @@ module _ (g : Geometry) (image : List ℕ) (b : Bool) (old : List ℕ) (fixed : 
         goes-on : (t : Bool) → eqb (c .count + 1) (8 * g .q) ≡ t
             → advanceOf g d false .device
             ≡ pick t (pageDevice g image b old (c .page .from) (c .i) (enabledCon b 4) 0) (pageDevice g image b old (c .page .from) (c .i) (runCon b 4) (c .count + 1))
-        goes-on true h = rw (c .device, run-op b, h, run-ends b)
-        goes-on false h = rw (c .device, run-op b, h)
+        goes-on true h = rw (c .device, page-codes b .op-code, h, page-codes b .ends)
+        goes-on false h = rw (c .device, page-codes b .op-code, h)
 
         go : Dec (c .count + 1 ≡ pageQuadsOf g) → Phase g image b old (advanceOf g d false .device) (putQuad new quad blankQuad) (suc place)
         go (yes h) =
@@ -233,25 +188,15 @@ module _ (g : Geometry) (image : List ℕ) (b : Bool) (old : List ℕ) (fixed : 
         from = c .page .from
 
         rest : AtRest g d
-        rest = record { listed = fixed .listed; range = ok; possible = sound .possible; idle = rw (c .device) (end-idle b) }
+        rest = record { listed = fixed .listed; range = ok; possible = sound .possible; idle = rw (c .device) (page-codes b .end-idle) }
 
         ended : storeOf g d 0 1 0x4000 .device ≡ pageDevice g image b old (c .page .from) (c .i) (restCon b 4) 0
-        ended = ap (λ s. s .device) (clear-wren g d rest) ∙ rw (c .device, end-rests b)
+        ended = ap (λ s. s .device) (clear-wren g d rest) ∙ rw (c .device, page-codes b .rests)
 
         between : Between g b (storeOf g d 0 1 0x4000 .device)
         between =
-            record {
-              rest = no-launch-rests g d rest (access 0 1 0x4000) quiet-clear;
-              shut = rw ended;
-              wren = rw ended (rest-codes b .0);
-              page-op = rw ended (rest-codes b .1);
-              quad-op = rw ended (rest-codes b .2);
-              boot = rw ended (rest-codes b .3);
-              program = rw ended (rest-codes b .4);
-              free = rw ended (c .page .between .free);
-              reach = rw ended (c .page .between .reach);
-              quad = rw ended (c .page .between .quad);
-            }
+            ended-between g b 4 (page-codes b) (storeOf g d 0 1 0x4000 .device) (withAddress from (upperAddressOf g (erasedPageOf g (c .i) * pageQuadsOf g)))
+            (no-launch-rests g d rest (access 0 1 0x4000) quiet-clear) ended (c .page .between .free) (c .page .between .reach) (c .page .between .quad)
 
         go : (suc (c .i) ≡ pagesOf g) ⊎ (suc (c .i) < pagesOf g) → Phase g image b old (storeOf g d 0 1 0x4000 .device) new (suc place)
         go (inl e) =
@@ -264,7 +209,7 @@ module _ (g : Geometry) (image : List ℕ) (b : Bool) (old : List ℕ) (fixed : 
                     between = between;
                     below = some-quads g ok;
                     words = c .page .losing .words;
-                    programmed = programmed-none g ok new new-long image (wordAt old (sequenceIndexOf g)) (rw (ap (λ (n : ℕ). n * pageQuadsOf g) e) at (c .page .erased));
+                    programmed = programmed-none g ok new (new-long g b d old new sound) image (wordAt old (sequenceIndexOf g)) (rw (ap (λ (n : ℕ). n * pageQuadsOf g) e) at (c .page .erased));
                   };
               count = 0;
               few = omega arith;

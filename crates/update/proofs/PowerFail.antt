@@ -42,6 +42,7 @@ use Rattle.update.proofs.WordLaws.{chosenOf, next-wins}
 use Rattle.update.proofs.RestartLaws.{Fresh, Started, reset-fresh, reset-quad, start-up-answers, start-up-started, start-up-quad}
 use Rattle.update.proofs.BankLaws.{same-word}
 use Rattle.update.proofs.Phases.{placed, Fixed, Losing, Stands}
+use Rattle.update.proofs.NextLaws.{new-long}
 use Rattle.update.proofs.StandsLaws.{stands-turns, turns-reach}
 use Rattle.update.proofs.CutLaws.{Outcome, AfterCut, cut-leaves, whole, reset-idle}
 use Rattle.update.proofs.StartLaws.{start-fixed, start-stands, accepted-again}
@@ -108,17 +109,13 @@ module _ (g : Geometry) (image : List ℕ) (b : Bool) (kept : List ℕ) (fixed :
           let done = whole g image b kept fixed (stands .device) (stands .new) (p .place) (rw (stands .state) at (stands .sound)) (stands .phase) e in (
             record {
               new = stands .new;
-              long = new-long b (stands .new) (rw (stands .state) at (stands .sound));
+              long = new-long g b (stands .device) kept (stands .new) (rw (stands .state) at (stands .sound));
               outcome = inr (done .1);
               state = idle-cut (p .state) (stands .device) (stands .new) (stands .state) (done .0) accepted;
             },
             done .1,
           )
         where
-          new-long : (t : Bool) (new : List ℕ) → Sound g (placed t (stands .device) kept new) → length new ≡ bankWordsOf g
-          new-long true new sound = sound .first
-          new-long false new sound = sound .other
-
           idle-cut : (s : State) (d : Device) (new : List ℕ) → s ≡ placed b d kept new → running d ≡ false → acceptedOf (resetBy g s c .decline) ≡ true
               → left (resetBy g s c) ≡ placed b (resetDeviceOf d (c .kind) (chosenOf b (wordAt kept (sequenceIndexOf g)) (wordAt new (sequenceIndexOf g)))) kept new
           idle-cut s d new h off = rw h (λ acc. reset-idle g image b kept fixed d new (c .sram) (c .kind) (c .mask) acc off)

@@ -34,55 +34,13 @@ use Rattle.update.specs.Start.{lowerWordOf}
 use Rattle.update.specs.PowerFail.{Words}
 use Rattle.update.proofs.WordLaws.{next-word}
 use Rattle.update.proofs.TargetLaws.{address-word, program-effect}
-use Rattle.update.proofs.HeadLaws.{Between, restCon, enabledCon, runCon, quiet-op, quiet-plain, quiet-set, quiet-clear, quiet-keys, quad-head}
+use Rattle.update.proofs.HeadLaws.{Between, restCon, enabledCon, runCon, quad-codes, ended-between, quiet-op, quiet-plain, quiet-set, quiet-clear, quiet-keys, quad-head}
 use Rattle.update.proofs.StoringLaws.{none, Forms, form-at, prefix-rest, quiet-prefix, Shut, shut-prefix, swap-kept, storing, storedNext}
 use Rattle.update.proofs.PlaceLaws.{storeOfAccess, total-place, quad-store, quad-step, quad-end}
 use Rattle.update.proofs.BankLaws.{quad-below, programmed-next, words-put}
 use Rattle.update.proofs.Phases.{placed, Fixed, oldWord, newWords, Quad, quadDevice, QuadStores, QuadStep, QuadEnd, Finished, Phase}
 use Rattle.update.proofs.Phases.Phase.{in-quad-stores, at-quad-step, at-quad-end, at-total}
-use Rattle.update.proofs.NextLaws.{Goes, goes-store, goes-step}
-
--- NVMCON while a quad is programmed, and after it
-pub quad-on : (t : Bool) → hasOf (runCon t 2) WR ≡ true
-quad-on true = refl
-quad-on false = refl
-
-pub quad-boot : (t : Bool) → hasOf (runCon t 2) BFSWAP ≡ t
-quad-boot true = refl
-quad-boot false = refl
-
-pub quad-program : (t : Bool) → hasOf (runCon t 2) PFSWAP ≡ t
-quad-program true = refl
-quad-program false = refl
-
-pub quad-op : (t : Bool) → runCon t 2 % 16 ≡ 2
-quad-op true = refl
-quad-op false = refl
-
-quad-ends : (t : Bool) → clearOf (runCon t 2) (WR + WRERR) ≡ enabledCon t 2
-quad-ends true = refl
-quad-ends false = refl
-
-pub end-idle : (t : Bool) → hasOf (enabledCon t 2) WR ≡ false
-end-idle true = refl
-end-idle false = refl
-
-end-boot : (t : Bool) → hasOf (enabledCon t 2) BFSWAP ≡ t
-end-boot true = refl
-end-boot false = refl
-
-end-rests : (t : Bool) → clearOf (enabledCon t 2) WREN ≡ restCon t 2
-end-rests true = refl
-end-rests false = refl
-
-rest-codes : (t : Bool)
-    → (hasOf (restCon t 2) WREN ≡ false)
-    × (mergeOf (WREN + NVMOP) 4 (restCon t 2) ≡ restCon t 4)
-    × (mergeOf (WREN + NVMOP) 2 (restCon t 2) ≡ restCon t 2)
-    × (hasOf (restCon t 2) BFSWAP ≡ t)
-    × (hasOf (restCon t 2) PFSWAP ≡ t)
-rest-codes true = (refl, refl, refl, refl, refl)
-rest-codes false = (refl, refl, refl, refl, refl)
+use Rattle.update.proofs.NextLaws.{new-long, Goes, goes-store, goes-step}
 
 -- the quads of the new bank have four words of 32 bits
 pub new-four : (g : Geometry) (image : List ℕ) (w j : ℕ) → let q = newQuadOf g image w j in
@@ -219,21 +177,14 @@ module _ (g : Geometry) (image : List ℕ) (b : Bool) (old : List ℕ) (fixed : 
             })
         go (inr l) = in-quad-stores (record { i = c .i; quad = c .quad; count = suc (c .count); few = l; here = omega (arith, c .here); device = next })
 
-    pub new-long : length new ≡ bankWordsOf g
-    new-long = go b (sound .first) (sound .other)
-      where
-        go : (t : Bool) → length (pick t new old) ≡ bankWordsOf g → length (pick t old new) ≡ bankWordsOf g → length new ≡ bankWordsOf g
-        go true x y = x
-        go false x y = y
-
     -- the quad that is programmed was blank, so the step writes it
     pub quad-writes : (c : QuadStep g image b old d new place)
         → effectOf g d (pick b new old) (pick b old new) sram ≡ effect false true (not b) (programmedQuadOf g (c .i)) (newWords g image b old (c .i))
     quad-writes c =
         rw (c .device)
-        (program-effect g ok e (c .quad .between .free) (quad-program b ∙ sym (quad-boot b)) (pick b new old) (pick b old new) sram (programmedQuadOf g (c .i))
-        (quad-below g ok (c .i) (c .quad .below)) (quad-op b) refl refl (rw (quad-boot b) (blank b))
-        ∙ ap (λ (t : Bool). effect false true (not t) (programmedQuadOf g (c .i)) (newWords g image b old (c .i))) (quad-boot b))
+        (program-effect g ok e (c .quad .between .free) (quad-codes b .program ∙ sym (quad-codes b .boot)) (pick b new old) (pick b old new) sram (programmedQuadOf g (c .i))
+        (quad-below g ok (c .i) (c .quad .below)) (quad-codes b .op-code) refl refl (rw (quad-codes b .boot) (blank b))
+        ∙ ap (λ (t : Bool). effect false true (not t) (programmedQuadOf g (c .i)) (newWords g image b old (c .i))) (quad-codes b .boot))
       where
         e : Device
         e = quadDevice g image b old (c .quad .from) (c .i) (runCon b 2)
@@ -245,7 +196,7 @@ module _ (g : Geometry) (image : List ℕ) (b : Bool) (old : List ℕ) (fixed : 
     pub quad-step-goes : length sram ≤ 16384 → QuadStep g image b old d new place → Goes g image b old d new place sram
     unfolding advanceOf lengthOf
     quad-step-goes short c =
-        goes-step g image b old d new place sram (fixed .listed) sound short (rw (c .device) (quad-on b))
+        goes-step g image b old d new place sram (fixed .listed) sound short (rw (c .device) (quad-codes b .on))
         (rw (c .here) (quad-step g image (lowerWordOf g (placed b d old new)) (c .i)))
         (programmedQuadOf g (c .i)) (newWords g image b old (c .i)) (quad-writes c)
         (at-quad-end
@@ -257,10 +208,10 @@ module _ (g : Geometry) (image : List ℕ) (b : Bool) (old : List ℕ) (fixed : 
                 between = c .quad .between;
                 below = c .quad .below;
                 words = words-put new (programmedQuadOf g (c .i)) (newWords g image b old (c .i)) (c .quad .words) (new-words g image (wordAt old (sequenceIndexOf g)) (programmedQuadOf g (c .i)) (fixed .image-words));
-                programmed = programmed-next g ok new new-long image (wordAt old (sequenceIndexOf g)) (c .i) (c .quad .below) (c .quad .programmed);
+                programmed = programmed-next g ok new (new-long g b d old new sound) image (wordAt old (sequenceIndexOf g)) (c .i) (c .quad .below) (c .quad .programmed);
               };
           here = omega (arith, c .here);
-          device = rw (c .device, quad-op b, quad-ends b);
+          device = rw (c .device, quad-codes b .op-code, quad-codes b .ends);
         }))
 
     pub quad-end-goes : QuadEnd g image b old d new place → Goes g image b old d new place sram
@@ -271,10 +222,10 @@ module _ (g : Geometry) (image : List ℕ) (b : Bool) (old : List ℕ) (fixed : 
         (go (eq-or-lt-of-le (c .quad .below)))
       where
         rest : AtRest g d
-        rest = record { listed = fixed .listed; range = ok; possible = sound .possible; idle = rw (c .device) (end-idle b) }
+        rest = record { listed = fixed .listed; range = ok; possible = sound .possible; idle = rw (c .device) (quad-codes b .end-idle) }
 
         ended : storeOf g d 0 1 0x4000 .device ≡ quadDevice g image b old (c .quad .from) (c .i) (restCon b 2)
-        ended = ap (λ s. s .device) (clear-wren g d rest) ∙ rw (c .device, end-rests b)
+        ended = ap (λ s. s .device) (clear-wren g d rest) ∙ rw (c .device, quad-codes b .rests)
 
         after : AtRest g (storeOf g d 0 1 0x4000 .device)
         after = no-launch-rests g d rest (access 0 1 0x4000) quiet-clear
@@ -284,18 +235,9 @@ module _ (g : Geometry) (image : List ℕ) (b : Bool) (old : List ℕ) (fixed : 
 
         between : Between g b (storeOf g d 0 1 0x4000 .device)
         between =
-            record {
-              rest = after;
-              shut = rw ended;
-              wren = rw ended (rest-codes b .0);
-              page-op = rw ended (rest-codes b .1);
-              quad-op = rw ended (rest-codes b .2);
-              boot = rw ended (rest-codes b .3);
-              program = rw ended (rest-codes b .4);
-              free = rw ended (c .quad .between .free);
-              reach = rw ended (c .quad .between .reach);
-              quad = rw ended four;
-            }
+            ended-between g b 2 (quad-codes b) (storeOf g d 0 1 0x4000 .device)
+            (withData (withAddress (c .quad .from) (upperAddressOf g (programmedQuadOf g (c .i)))) (newWords g image b old (c .i))) after ended
+            (c .quad .between .free) (c .quad .between .reach) four
 
         go : (suc (c .i) ≡ bankQuadsOf g) ⊎ (suc (c .i) < bankQuadsOf g) → Phase g image b old (storeOf g d 0 1 0x4000 .device) new (suc place)
         go (inl e) =

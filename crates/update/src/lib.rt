@@ -2,4 +2,5 @@
 mod actions;
 mod programming;
 pub mod start;
+pub mod thin;
 pub mod turn;

@@ -67,30 +67,30 @@ fn act(
             if running {
                 return unchanged(Decline::Running, false, d, place);
             }
-            let a = store_accepted(g, d, number, form, value);
-            let decline = a.decline;
-            let device = a.device;
+            let stored = store_accepted(g, d, number, form, value);
+            let decline = stored.decline;
+            let device = stored.device;
             Turned {
                 decline,
                 done: false,
                 device,
                 place: place + 1,
-                event: a.event,
+                event: stored.event,
             }
         }
         Action::Step => {
             if !running {
                 return unchanged(Decline::Idle, false, d, place);
             }
-            let a = step_accepted(g, d, one, two, sram);
-            let decline = a.decline;
-            let device = a.device;
+            let stepped = step_accepted(g, d, one, two, sram);
+            let decline = stepped.decline;
+            let device = stepped.device;
             Turned {
                 decline,
                 done: false,
                 device,
                 place: place + 1,
-                event: a.event,
+                event: stepped.event,
             }
         }
     }
