@@ -91,8 +91,8 @@ fn both_sides_of_each_subject_occur() {
         ("impossible", "possible", "0 1"),
         ("pages", "page", "accepted 2 8"),
         ("protection", "protected", "0 1"),
-        ("starts", "update_start", "accepted 2 5 10 11 12"),
-        ("turns", "turn", "accepted written event done 2 5 6 13"),
+        ("updates", "update_start", "accepted 2 5 10 11 12"),
+        ("updates", "turn", "accepted written event done 2 5 6 13"),
     ] {
         let expected: BTreeSet<String> = expected.split(' ').map(String::from).collect();
         assert_eq!(outcomes[&(subject, call)], expected, "{subject} {call}");

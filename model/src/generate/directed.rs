@@ -13,11 +13,9 @@ mod resets;
 mod rows;
 mod singles;
 mod start_ups;
-mod starts;
 mod steps;
 mod swaps;
 mod tears;
-mod turns;
 mod updates;
 
 pub use orders::ordered;
@@ -36,7 +34,7 @@ const fn subject(name: &'static str, make: fn() -> Vec<Case>) -> Subject {
     Subject { name, make }
 }
 
-pub const SUBJECTS: [Subject; 17] = [
+pub const SUBJECTS: [Subject; 16] = [
     subject("rows", rows::cases),
     subject("reads", reads::cases),
     subject("launches", launches::cases),
@@ -52,8 +50,7 @@ pub const SUBJECTS: [Subject; 17] = [
     subject("impossible", impossible::cases),
     subject("pages", pages::cases),
     subject("protection", protection::cases),
-    subject("starts", starts::cases),
-    subject("turns", turns::cases),
+    subject("updates", updates::cases),
 ];
 
 /// The cases of every subject; one that several subjects make stands with the first of them.

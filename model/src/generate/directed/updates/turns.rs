@@ -6,8 +6,8 @@ use crate::geometry::{Geometry, ALL_ONES, LOWER_PROGRAM, SRAM_LIMIT, UPPER_BOOT}
 use crate::sequence::word_of;
 use crate::update::{erase_actions, program_place, total};
 
-use super::parts::*;
-use super::updates::{Sign, OLD};
+use super::super::parts::*;
+use super::signs::{Sign, OLD};
 
 /// The place of the first flash step, of every geometry.
 const FIRST_STEP: u32 = 19;

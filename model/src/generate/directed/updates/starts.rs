@@ -5,8 +5,8 @@ use crate::device::*;
 use crate::geometry::{Geometry, ALL_ONES, ROW_QUADS, UPPER_BOOT};
 use crate::sequence::word_of;
 
-use super::parts::*;
-use super::updates::{Sign, OLD};
+use super::super::parts::*;
+use super::signs::{Sign, OLD};
 
 pub fn cases() -> Vec<Case> {
     let mut cases = Vec::new();
