@@ -6,10 +6,10 @@ use mathlib.Core.List.{[]}
 use Prim.Native.Nat.{ℕ}
 use native.Mathlib.Omega.{arith}
 use Rattle.geometry.specs.declared.banks.Geometry.{Geometry}
-use Rattle.geometry.specs.declared.decline.Decline.{Decline}
+use Rattle.words.specs.declared.decline.Decline.{Decline}
 use Rattle.geometry.specs.Banks.{inRangeOf, InRange}
-use Rattle.geometry.specs.Decline.{acceptedOf}
-use Rattle.geometry.proofs.DeclineLaws.{held, passed, neither}
+use Rattle.words.specs.Decline.{acceptedOf}
+use Rattle.words.proofs.DeclineLaws.{held, passed, neither}
 use Rattle.device.specs.declared.record.Device.{Device}
 use Rattle.device.specs.Record.{running}
 use Rattle.device.specs.Possible.{possibleOf}

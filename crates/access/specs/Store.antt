@@ -6,8 +6,8 @@ use lib.Dec.{eqb, ltb}
 use lib.ListN.{set}
 use Rattle.words.specs.Word.{pick, hasOf, mergeOf}
 use Rattle.geometry.specs.declared.banks.Geometry.{Geometry}
-use Rattle.geometry.specs.declared.decline.Decline.{Decline}
-use Rattle.geometry.specs.Decline.{acceptedOf, firstOf}
+use Rattle.words.specs.declared.decline.Decline.{Decline}
+use Rattle.words.specs.Decline.{acceptedOf, firstOf}
 use Rattle.device.specs.declared.record.Device.{Device}
 use Rattle.access.specs.declared.launch.Launched.{Launched}
 use Rattle.access.specs.declared.store.Stored.{Stored}

@@ -8,8 +8,8 @@ use device::registers::NVMKEY;
 use device::registers::Nvmcon;
 use device::registers::Nvmcon2;
 use geometry::banks::Geometry;
-use geometry::decline::Decline;
 use geometry::lent::Lent;
+use words::decline::Decline;
 use words::word::has;
 
 // The answer to a start-up. Where it is declined the device is as before.

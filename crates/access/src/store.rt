@@ -18,8 +18,8 @@ use device::registers::Nvmcon;
 use device::registers::Nvmcon2;
 use device::registers::Nvmpwp;
 use geometry::banks::Geometry;
-use geometry::decline::Decline;
 use geometry::lent::Lent;
+use words::decline::Decline;
 use words::word::has;
 use words::word::merge;
 

@@ -13,7 +13,7 @@ use device::possible::is_possible;
 use device::protection::is_protected;
 use geometry::banks::Geometry;
 use geometry::banks::in_range;
-use geometry::sequence::bfswap;
+use map::sequence::bfswap;
 
 pub fn compare_answer(words: [u32; 20]) -> Answer
     ensures { λ r. ⌜ r .count ≤ 20 ⌝ }

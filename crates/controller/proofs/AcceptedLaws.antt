@@ -7,12 +7,12 @@ use lib.Dec.{eqb, ltb}
 use borrow.Author.Tests.{ltb-true}
 use Rattle.words.specs.Word.{pick}
 use Rattle.geometry.specs.declared.banks.Geometry.{Geometry}
-use Rattle.geometry.specs.declared.decline.Decline.{Decline}
+use Rattle.words.specs.declared.decline.Decline.{Decline}
 use Rattle.geometry.specs.Banks.{InRange, pagesOf, pageWordsOf, bankWordsOf}
-use Rattle.geometry.specs.Decline.{acceptedOf}
+use Rattle.words.specs.Decline.{acceptedOf}
 use Rattle.geometry.specs.Lent.{lentDeclineOf}
-use Rattle.geometry.specs.Windows.{locateOf}
-use Rattle.geometry.proofs.DeclineLaws.{held, neither}
+use Rattle.map.specs.Windows.{locateOf}
+use Rattle.words.proofs.DeclineLaws.{held, neither}
 use Rattle.geometry.proofs.LentLaws.{fits}
 use Rattle.geometry.proofs.SizeLaws.{page-in-bank}
 use Rattle.device.specs.declared.record.Device.{Device}

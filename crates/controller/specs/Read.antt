@@ -7,10 +7,10 @@ use lib.ListN.{length}
 use Rattle.words.specs.Word.{pick}
 use Rattle.words.specs.Quad.{wordAt}
 use Rattle.geometry.specs.declared.banks.Geometry.{Geometry}
-use Rattle.geometry.specs.declared.windows.Location.{Location}
-use Rattle.geometry.specs.declared.decline.Decline.{Decline}
-use Rattle.geometry.specs.Decline.{acceptedOf, firstOf}
-use Rattle.geometry.specs.Windows.{locateOf, wordIndexOf, inSecondOf}
+use Rattle.map.specs.declared.windows.Location.{Location}
+use Rattle.words.specs.declared.decline.Decline.{Decline}
+use Rattle.words.specs.Decline.{acceptedOf, firstOf}
+use Rattle.map.specs.Windows.{locateOf, wordIndexOf, inSecondOf}
 use Rattle.device.specs.declared.record.Device.{Device}
 use Rattle.device.specs.Record.{running, bfswap, pfswap, opOf}
 use Rattle.device.specs.Opening.{openingOf}

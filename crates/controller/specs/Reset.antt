@@ -8,9 +8,9 @@ use lib.Bits.{bitOr}
 use Rattle.words.specs.Word.{pick, mergeOf, clearOf}
 use Rattle.words.specs.Quad.{wordAt, mergeQuadOf}
 use Rattle.geometry.specs.declared.banks.Geometry.{Geometry}
-use Rattle.geometry.specs.declared.decline.Decline.{Decline}
-use Rattle.geometry.specs.Decline.{acceptedOf, firstOf}
-use Rattle.geometry.specs.Sequence.{sequenceIndexOf, bfswapOf}
+use Rattle.words.specs.declared.decline.Decline.{Decline}
+use Rattle.words.specs.Decline.{acceptedOf, firstOf}
+use Rattle.map.specs.Sequence.{sequenceIndexOf, bfswapOf}
 use Rattle.device.specs.declared.record.Device.{Device}
 use Rattle.device.specs.Registers.{WR, WREN, LVDERR, PFSWAP, BFSWAP, NVMERS, resets}
 use Rattle.device.specs.Record.{powerOn, withCon, running}

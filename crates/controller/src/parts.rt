@@ -8,9 +8,9 @@ use device::registers::Nvmcon;
 use geometry::banks::Geometry;
 use geometry::banks::page_words;
 use geometry::banks::pages;
-use geometry::decline::Decline;
 use geometry::lent::Lent;
 use geometry::lent::lent_decline;
+use words::decline::Decline;
 use words::word::has;
 
 // Why the request for the bank on the lower alias is declined.

@@ -3,7 +3,7 @@ ghost use mathlib.Core.Path.{_≡_};
 ghost use mathlib.Core.Bool.{true};
 ghost use lib.ListN.{length};
 ghost use Rattle.geometry.specs.Banks.{InRange, bankWordsOf};
-ghost use Rattle.geometry.specs.Windows.{locateOf, windowBytesOf};
+ghost use Rattle.map.specs.Windows.{locateOf, windowBytesOf};
 ghost use Rattle.device.specs.Possible.{possibleOf};
 ghost use Rattle.controller.specs.Read.{secondAtOf, freeOf, readableOf, flashReadDeclineOf, wordReadOf, flashReadOf};
 use device::opening::opening;
@@ -12,12 +12,12 @@ use device::record::Device;
 use device::registers::Nvmcon;
 use flash::effect::step_location;
 use geometry::banks::Geometry;
-use geometry::decline::Decline;
 use geometry::lent::Lent;
-use geometry::windows::Location;
-use geometry::windows::in_second;
-use geometry::windows::locate;
-use geometry::windows::word_index;
+use map::windows::Location;
+use map::windows::in_second;
+use map::windows::locate;
+use map::windows::word_index;
+use words::decline::Decline;
 use words::word::has;
 
 // The answer to a flash read. Where it is declined the word is 0.

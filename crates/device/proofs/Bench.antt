@@ -6,9 +6,9 @@ use native.Mathlib.Nat.{mul-le-mul, zero-mul}
 use native.Mathlib.Omega.{arith}
 use borrow.Author.Tests.{lt-leb}
 use Rattle.geometry.proofs.SizeLaws.{in-range}
-use Rattle.geometry.proofs.Bench as geometry-bench
+use Rattle.map.proofs.Bench as geometry-bench
 use Rattle.geometry.specs.Banks.{roundDownOf}
-use Rattle.geometry.specs.Windows.{locateOf}
+use Rattle.map.specs.Windows.{locateOf}
 use Rattle.device.specs.Protection.{programProtectedOf, protectedOf}
 use Rattle.device.specs.Operation.{unitOf, targetOf}
 use Rattle.device.specs.Bench.{Bench}

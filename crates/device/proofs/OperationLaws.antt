@@ -10,10 +10,10 @@ use borrow.Author.Tests.{le-leb, leb-true}
 use Rattle.words.specs.Word.{pick}
 use Rattle.words.proofs.PickLaws.{pick-both, and-both}
 use Rattle.geometry.specs.declared.banks.Geometry.{Geometry}
-use Rattle.geometry.specs.declared.windows.Location.{Location}
+use Rattle.map.specs.declared.windows.Location.{Location}
 use Rattle.geometry.specs.Banks.{InRange, roundDownOf}
-use Rattle.geometry.specs.Windows.{windowBytesOf, pageOf}
-use Rattle.geometry.proofs.WindowLaws.{stands, page-below}
+use Rattle.map.specs.Windows.{windowBytesOf, pageOf}
+use Rattle.map.proofs.WindowLaws.{stands, page-below}
 use Rattle.device.specs.declared.record.Device.{Device}
 use Rattle.device.specs.Protection.{pwpOf, programProtectedOf, pageOffsetOf, protectedOf, anyProtectedOf}
 use Rattle.device.specs.Operation.{unitOf, targetOf, regionBeginsOf, lengthOf}

@@ -4,8 +4,8 @@ use mathlib.Core.Path.{_≡_}
 use mathlib.Core.Bool.{Bool, true, false}
 use Rattle.geometry.specs.declared.banks.Geometry.{Geometry}
 use Rattle.geometry.specs.Banks.{inRangeOf}
-use Rattle.geometry.specs.Windows.{locateOf}
-use Rattle.geometry.specs.Bench as geometry-bench
+use Rattle.map.specs.Windows.{locateOf}
+use Rattle.map.specs.Bench as geometry-bench
 use Rattle.device.specs.declared.record.Device.{Device}
 use Rattle.device.specs.Protection.{pwpOf, protectedOf}
 use Rattle.device.specs.Operation.{targetOf}

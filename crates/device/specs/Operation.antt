@@ -4,9 +4,9 @@ use mathlib.Core.Bool.{Bool, true, false, not, _&&_}
 use lib.Dec.{eqb, ltb}
 use Rattle.words.specs.Word.{pick}
 use Rattle.geometry.specs.declared.banks.Geometry.{Geometry}
-use Rattle.geometry.specs.declared.windows.Location.{Location}
+use Rattle.map.specs.declared.windows.Location.{Location}
 use Rattle.geometry.specs.Banks.{rowBytesOf, pageBytesOf, roundDownOf}
-use Rattle.geometry.specs.Windows.{locateOf, pageOf}
+use Rattle.map.specs.Windows.{locateOf, pageOf}
 use Rattle.device.specs.declared.record.Device.{Device}
 use Rattle.device.specs.Record.{opOf}
 use Rattle.device.specs.Protection.{pwpOf, programProtectedOf, pageOffsetOf, anyProtectedOf}

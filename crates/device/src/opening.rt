@@ -5,9 +5,9 @@ ghost use Rattle.device.specs.Opening.{openingOf};
 use crate::possible::is_possible;
 use crate::record::Device;
 use geometry::banks::Geometry;
-use geometry::decline::Decline;
 use geometry::lent::Lent;
 use geometry::lent::lent_decline;
+use words::decline::Decline;
 
 // Which of declines 1, 2 and 3 applies; an SRAM of length 0 where none is lent.
 pub fn opening(g: Geometry, d: Device, lent: Lent, sram: usize) -> Decline

@@ -15,9 +15,9 @@ use geometry::banks::page_quads;
 use geometry::banks::program_bytes;
 use geometry::banks::round_down;
 use geometry::banks::row_bytes;
-use geometry::windows::Location;
-use geometry::windows::locate;
-use geometry::windows::page;
+use map::windows::Location;
+use map::windows::locate;
+use map::windows::page;
 
 // NVMOP.
 pub fn op(d: Device) -> u32

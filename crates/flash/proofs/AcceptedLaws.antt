@@ -9,10 +9,10 @@ use borrow.Author.Tests.{ltb-true}
 use Rattle.words.specs.Word.{hasOf}
 use Rattle.words.proofs.PickLaws.{and-both}
 use Rattle.geometry.specs.declared.banks.Geometry.{Geometry}
-use Rattle.geometry.specs.declared.decline.Decline.{Decline}
+use Rattle.words.specs.declared.decline.Decline.{Decline}
 use Rattle.geometry.specs.Banks.{InRange}
-use Rattle.geometry.specs.Decline.{acceptedOf}
-use Rattle.geometry.proofs.DeclineLaws.{held, neither}
+use Rattle.words.specs.Decline.{acceptedOf}
+use Rattle.words.proofs.DeclineLaws.{held, neither}
 use Rattle.device.specs.declared.record.Device.{Device}
 use Rattle.device.specs.Registers.{WRERR, LVDERR}
 use Rattle.device.specs.Record.{running, opOf}

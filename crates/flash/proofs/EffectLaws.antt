@@ -13,11 +13,11 @@ use Rattle.words.specs.Quad.{isBlankOf}
 use Rattle.words.proofs.PickLaws.{pick-both, and-both}
 use Rattle.words.proofs.BitLaws.{true-not-false}
 use Rattle.geometry.specs.declared.banks.Geometry.{Geometry}
-use Rattle.geometry.specs.declared.windows.Location.{Location}
+use Rattle.map.specs.declared.windows.Location.{Location}
 use Rattle.geometry.specs.Banks.{InRange, rowBytesOf, pageBytesOf, bankWordsOf}
-use Rattle.geometry.specs.Windows.{windowBytesOf, located, quadIndexOf, inSecondOf}
+use Rattle.map.specs.Windows.{windowBytesOf, located, quadIndexOf, inSecondOf}
 use Rattle.geometry.proofs.SizeLaws.{Unit, quad-unit, row-unit, page-unit}
-use Rattle.geometry.proofs.WindowLaws.{unit-room, quad-in-bank}
+use Rattle.map.proofs.WindowLaws.{unit-room, quad-in-bank}
 use Rattle.device.specs.declared.record.Device.{Device}
 use Rattle.device.specs.Record.{opOf, bfswap, pfswap}
 use Rattle.device.specs.Protection.{pwpOf}

@@ -8,9 +8,9 @@ use lib.ListN.{length}
 use Rattle.words.specs.Word.{pick}
 use Rattle.words.specs.Quad.{quadAt, quadFrom, putQuad, isBlankOf, blankQuad}
 use Rattle.geometry.specs.declared.banks.Geometry.{Geometry}
-use Rattle.geometry.specs.declared.windows.Location.{Location}
+use Rattle.map.specs.declared.windows.Location.{Location}
 use Rattle.geometry.specs.Banks.{InRange}
-use Rattle.geometry.specs.Windows.{located, pageOf, quadIndexOf, inSecondOf}
+use Rattle.map.specs.Windows.{located, pageOf, quadIndexOf, inSecondOf}
 use Rattle.device.specs.declared.record.Device.{Device}
 use Rattle.device.specs.Record.{opOf, bfswap, pfswap}
 use Rattle.device.specs.Protection.{bootProtectedOf}

@@ -14,8 +14,8 @@ use device::operation::op;
 use device::record::Device;
 use device::registers::Nvmcon;
 use geometry::banks::Geometry;
-use geometry::decline::Decline;
 use geometry::lent::Lent;
+use words::decline::Decline;
 use words::word::clear;
 use words::word::has;
 

@@ -10,7 +10,7 @@ use Rattle.words.proofs.PickLaws.{and-both}
 use Rattle.words.proofs.BitLaws.{true-not-false}
 use Rattle.geometry.specs.declared.banks.Geometry.{Geometry}
 use Rattle.geometry.specs.Banks.{inRangeOf, InRange, bankWordsOf}
-use Rattle.geometry.specs.Decline.{acceptedOf}
+use Rattle.words.specs.Decline.{acceptedOf}
 use Rattle.geometry.specs.Lent.{bankLengths, lengthsFitOf, lentDeclineOf}
 use Rattle.geometry.proofs.SizeLaws.{in-range}
 

@@ -5,7 +5,7 @@ use mathlib.Core.List.{List, [], _∷_}
 use lib.Dec.{eqb, leb}
 use Rattle.words.specs.Word.{pick}
 use Rattle.geometry.specs.declared.banks.Geometry.{Geometry}
-use Rattle.geometry.specs.declared.decline.Decline.{Decline}
+use Rattle.words.specs.declared.decline.Decline.{Decline}
 use Rattle.geometry.specs.declared.lent.Lent.{Lent}
 use Rattle.geometry.specs.declared.lent.Lent.the-variants.{Nothing, Bank, Banks, BanksAndImage}
 use Rattle.geometry.specs.Banks.{inRangeOf, bankWordsOf}

@@ -5,7 +5,7 @@ ghost use Rattle.geometry.specs.Lent.{lengthsOf, lengthsFitOf, lentDecli
 use crate::banks::Geometry;
 use crate::banks::bank_words;
 use crate::banks::in_range;
-use crate::decline::Decline;
+use words::decline::Decline;
 
 pub const MOST_SRAM: usize = 16384;
 

@@ -1,6 +1,3 @@
-// Banks and map: why a call is declined, sizes, the four windows, the sequence word.
+// Sizes and lengths: Q, B and P with decline 1, what is lent with decline 2.
 pub mod banks;
-pub mod decline;
 pub mod lent;
-pub mod sequence;
-pub mod windows;

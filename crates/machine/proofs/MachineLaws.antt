@@ -9,7 +9,7 @@ use lib.Dec.{eqb}
 use Rattle.words.proofs.PickLaws.{pick-both}
 use Rattle.words.proofs.BitLaws.{true-not-false}
 use Rattle.geometry.specs.declared.banks.Geometry.{Geometry}
-use Rattle.geometry.specs.Decline.{acceptedOf}
+use Rattle.words.specs.Decline.{acceptedOf}
 use Rattle.device.specs.declared.record.Device.{Device}
 use Rattle.access.specs.declared.store.Stored.{Stored}
 use Rattle.access.specs.declared.store.RegisterRead.{RegisterRead}

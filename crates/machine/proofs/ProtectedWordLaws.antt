@@ -14,9 +14,9 @@ use Rattle.words.specs.Word.{pick}
 use Rattle.words.specs.Quad.{wordAt}
 use Rattle.words.proofs.BitLaws.{true-not-false}
 use Rattle.geometry.specs.declared.banks.Geometry.{Geometry}
-use Rattle.geometry.specs.declared.windows.Location.{Location}
+use Rattle.map.specs.declared.windows.Location.{Location}
 use Rattle.geometry.specs.Banks.{pageBytesOf, pageWordsOf, bootWordsOf, bootQuadsOf}
-use Rattle.geometry.specs.Windows.{windowBytesOf, pageOf, quadIndexOf}
+use Rattle.map.specs.Windows.{windowBytesOf, pageOf, quadIndexOf}
 use Rattle.device.specs.declared.record.Device.{Device}
 use Rattle.device.specs.Record.{bfswap, pfswap}
 use Rattle.device.specs.Protection.{protectedOf}

@@ -15,11 +15,11 @@ use Rattle.words.specs.Word.{pick}
 use Rattle.words.specs.Quad.{blankQuad}
 use Rattle.words.proofs.BitLaws.{true-not-false}
 use Rattle.geometry.specs.declared.banks.Geometry.{Geometry}
-use Rattle.geometry.specs.declared.windows.Location.{Location}
+use Rattle.map.specs.declared.windows.Location.{Location}
 use Rattle.geometry.specs.Banks.{InRange, pageBytesOf, roundDownOf}
-use Rattle.geometry.specs.Windows.{located, pageOf, quadIndexOf, inSecondOf}
+use Rattle.map.specs.Windows.{located, pageOf, quadIndexOf, inSecondOf}
 use Rattle.geometry.proofs.SizeLaws.{Unit, quad-unit, row-unit, page-unit, round-same-page}
-use Rattle.geometry.proofs.WindowLaws.{unit-kept, page-below}
+use Rattle.map.proofs.WindowLaws.{unit-kept, page-below}
 use Rattle.device.specs.declared.record.Device.{Device}
 use Rattle.device.specs.Record.{opOf, bfswap, pfswap}
 use Rattle.device.specs.Protection.{pwpOf, programProtectedOf, pageOffsetOf, bootProtectedOf, protectedOf, anyProtectedOf}

@@ -10,7 +10,7 @@ use lib.ListN.{take}
 use Rattle.words.specs.Word.{pick}
 use Rattle.words.proofs.BitLaws.{true-not-false}
 use Rattle.geometry.specs.declared.banks.Geometry.{Geometry}
-use Rattle.geometry.specs.Decline.{acceptedOf}
+use Rattle.words.specs.Decline.{acceptedOf}
 use Rattle.device.specs.declared.record.Device.{Device}
 use Rattle.device.specs.Record.{bfswap}
 use Rattle.access.specs.Store.{hasFormOf, storeDeclineOf, storeOf}

@@ -12,7 +12,7 @@ use Rattle.words.specs.Word.{pick, bit, hasOf, mergeOf, clearOf}
 use Rattle.words.proofs.BitLaws.{bit-or, clear-bit, has-bit, bit-above}
 use Rattle.words.proofs.MaskLaws.{Within, merge-set, merge-clear, merge-none}
 use Rattle.geometry.specs.declared.banks.Geometry.{Geometry}
-use Rattle.geometry.specs.Decline.{acceptedOf}
+use Rattle.words.specs.Decline.{acceptedOf}
 use Rattle.device.specs.declared.record.Device.{Device}
 use Rattle.access.specs.declared.launch.Launched.{Launched}
 use Rattle.access.specs.declared.store.Stored.{Stored}

@@ -16,7 +16,7 @@ use Rattle.words.proofs.PickLaws.{pick-both, and-both}
 use Rattle.words.proofs.BitLaws.{bit-or, clear-bit, has-bit}
 use Rattle.words.proofs.MaskLaws.{Within, merge-within, or-within, clear-within, merge-keeps, within-trans, outside-bit, has-none, within-high}
 use Rattle.geometry.specs.declared.banks.Geometry.{Geometry}
-use Rattle.geometry.specs.Decline.{acceptedOf}
+use Rattle.words.specs.Decline.{acceptedOf}
 use Rattle.device.specs.declared.record.Device.{Device}
 use Rattle.access.specs.declared.launch.Launched.{Launched}
 use Rattle.access.specs.declared.store.Stored.{Stored}

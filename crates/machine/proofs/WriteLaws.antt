@@ -13,8 +13,8 @@ use Rattle.words.proofs.PickLaws.{pick-both, and-both}
 use Rattle.words.proofs.BitLaws.{true-not-false}
 use Rattle.words.proofs.QuadLaws.{put-length, put-other-word}
 use Rattle.geometry.specs.declared.banks.Geometry.{Geometry}
-use Rattle.geometry.specs.Decline.{acceptedOf}
-use Rattle.geometry.specs.Windows.{pageOf, quadIndexOf, inSecondOf}
+use Rattle.words.specs.Decline.{acceptedOf}
+use Rattle.map.specs.Windows.{pageOf, quadIndexOf, inSecondOf}
 use Rattle.device.specs.declared.record.Device.{Device}
 use Rattle.device.specs.Record.{running, bfswap, pfswap, opOf}
 use Rattle.device.specs.Protection.{protectedOf}

@@ -9,10 +9,10 @@ use lib.ListN.{length, take}
 use Rattle.words.specs.Word.{pick}
 use Rattle.words.specs.Quad.{wordAt}
 use Rattle.geometry.specs.declared.banks.Geometry.{Geometry}
-use Rattle.geometry.specs.declared.decline.Decline.{Decline}
+use Rattle.words.specs.declared.decline.Decline.{Decline}
 use Rattle.geometry.specs.Banks.{bankWordsOf}
-use Rattle.geometry.specs.Decline.{acceptedOf}
-use Rattle.geometry.specs.Windows.{quadIndexOf}
+use Rattle.words.specs.Decline.{acceptedOf}
+use Rattle.map.specs.Windows.{quadIndexOf}
 use Rattle.device.specs.declared.record.Device.{Device}
 use Rattle.device.specs.Registers.{withinOf}
 use Rattle.device.specs.Record.{registerOf, powerOn, bfswap}

@@ -14,9 +14,9 @@ use Rattle.words.specs.Word.{pick}
 use Rattle.words.proofs.PickLaws.{pick-both, and-both, all-below}
 use Rattle.words.proofs.BitLaws.{true-not-false}
 use Rattle.geometry.specs.declared.banks.Geometry.{Geometry}
-use Rattle.geometry.specs.declared.decline.Decline.{Decline}
+use Rattle.words.specs.declared.decline.Decline.{Decline}
 use Rattle.geometry.specs.Banks.{inRangeOf}
-use Rattle.geometry.specs.Decline.{numberOf, acceptedOf}
+use Rattle.words.specs.Decline.{numberOf, acceptedOf}
 use Rattle.geometry.specs.Lent.{lengthsFitOf, lentDeclineOf}
 use Rattle.device.specs.declared.record.Device.{Device}
 use Rattle.device.specs.Record.{running}

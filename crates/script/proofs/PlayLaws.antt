@@ -10,8 +10,8 @@ use lib.ListN.{length, length-append}
 use lib.Seq.{sets}
 use Rattle.words.proofs.BitLaws.{true-not-false}
 use Rattle.geometry.specs.declared.banks.Geometry.{Geometry}
-use Rattle.geometry.specs.declared.decline.Decline.{Decline}
-use Rattle.geometry.specs.Decline.{numberOf, acceptedOf}
+use Rattle.words.specs.declared.decline.Decline.{Decline}
+use Rattle.words.specs.Decline.{numberOf, acceptedOf}
 use Rattle.flash.specs.Step.{After}
 use Rattle.machine.specs.Machine.{State, left}
 use Rattle.lines.specs.Buffer.{saturatedOf}

@@ -14,10 +14,10 @@ use Rattle.lines.specs.Buffer.{saturatedOf}
 use Rattle.lines.specs.Digits.{widthOf}
 use Rattle.lines.proofs.BufferLaws.{front-whole}
 use Rattle.lines.proofs.LineLaws.{length-four}
-use Rattle.geometry.specs.declared.decline.Decline.{Decline}
+use Rattle.words.specs.declared.decline.Decline.{Decline}
 use Rattle.geometry.specs.Banks.{listedOf, inRangeOf}
-use Rattle.geometry.specs.Decline.{acceptedOf}
-use Rattle.geometry.specs.Sequence.{complementOf, validOf, bfswapOf}
+use Rattle.words.specs.Decline.{acceptedOf}
+use Rattle.map.specs.Sequence.{complementOf, validOf, bfswapOf}
 use Rattle.device.specs.declared.record.Device.{Device}
 use Rattle.device.specs.Record.{powerOn}
 use Rattle.device.specs.Opening.{openingOf}

@@ -13,7 +13,7 @@ use Rattle.flash.specs.Effect.{stepAtOf, blockedOf, effectAtOf, effectOf}
 use Rattle.flash.specs.Step.{stepDeclineOf, advanceOf, stepOf}
 use Rattle.geometry.specs.Banks.{listedOf, inRangeOf}
 use Rattle.geometry.specs.Lent.{lengthsFitOf, lentDeclineOf}
-use Rattle.geometry.specs.Windows.{inWindowOf, locateOf}
+use Rattle.map.specs.Windows.{inWindowOf, locateOf}
 use Rattle.lines.specs.Digits.{digitOf, widthOf}
 use Rattle.lines.specs.Lines.{lineOf}
 use Rattle.script.specs.Play.{recordAfterOf}

@@ -7,8 +7,8 @@ use Rattle.words.specs.Word.{pick}
 use Rattle.lines.specs.Buffer.{putFirst, saturatedOf}
 use Rattle.lines.specs.Lines.{lineOf}
 use Rattle.geometry.specs.declared.banks.Geometry.{Geometry}
-use Rattle.geometry.specs.declared.decline.Decline.{Decline}
-use Rattle.geometry.specs.Decline.{numberOf, acceptedOf, firstOf}
+use Rattle.words.specs.declared.decline.Decline.{Decline}
+use Rattle.words.specs.Decline.{numberOf, acceptedOf, firstOf}
 use Rattle.device.specs.declared.record.Device.{Device}
 use Rattle.device.specs.Opening.{openingOf}
 use Rattle.access.specs.declared.store.Stored.{Stored}

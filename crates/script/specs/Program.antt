@@ -7,10 +7,10 @@ use Rattle.words.specs.Word.{pick, allOnes}
 use Rattle.lines.specs.Buffer.{putFirst}
 use Rattle.lines.specs.Lines.{lineFeed, decimalOf}
 use Rattle.geometry.specs.declared.banks.Geometry.{Geometry}
-use Rattle.geometry.specs.declared.decline.Decline.{Decline}
+use Rattle.words.specs.declared.decline.Decline.{Decline}
 use Rattle.geometry.specs.Banks.{bankWordsOf}
-use Rattle.geometry.specs.Decline.{numberOf}
-use Rattle.geometry.specs.Sequence.{sequenceIndexOf}
+use Rattle.words.specs.Decline.{numberOf}
+use Rattle.map.specs.Sequence.{sequenceIndexOf}
 use Rattle.device.specs.Record.{powerOn}
 use Rattle.machine.specs.Machine.{State, state}
 use Rattle.script.specs.Records.{recordsOf, isScriptOf}

@@ -13,10 +13,10 @@ use device::record::Device;
 use flash::step::Stepped;
 use flash::step::step;
 use geometry::banks::Geometry;
-use geometry::decline::Decline;
 use geometry::lent::Lent;
 use lines::lines::lines_length;
 use lines::lines::write_line;
+use words::decline::Decline;
 
 // The answer to a play, and the bytes of its whole output: where the buffer is shorter, it holds the output's front.
 // Where the play is declined everything is as before.

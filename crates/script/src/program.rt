@@ -7,10 +7,10 @@ use crate::play::Played;
 use crate::play::play;
 use device::record::power_on;
 use geometry::banks::Geometry;
-use geometry::decline::Decline;
 use lines::buffer::put_front;
 use lines::lines::LINE_FEED;
 use lines::lines::put_decimal;
+use words::decline::Decline;
 
 // The longest script in bytes.
 pub const LONGEST: usize = 65536;

@@ -4,7 +4,7 @@ use mathlib.Core.Path.{_≡_, refl}
 use Prim.Native.Nat.{ℕ}
 use Rattle.geometry.specs.Banks.{listedOf, inRangeOf}
 use Rattle.geometry.specs.Lent.{lengthsFitOf, lentDeclineOf}
-use Rattle.geometry.specs.Sequence.{complementOf, validOf, bfswapOf}
+use Rattle.map.specs.Sequence.{complementOf, validOf, bfswapOf}
 use Rattle.device.specs.declared.record.Device.{Device}
 use Rattle.device.specs.Record.{registerOf, powerOn}
 use Rattle.device.specs.Possible.{implementedOf, possibleOf}

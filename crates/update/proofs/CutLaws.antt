@@ -17,8 +17,8 @@ use Rattle.words.specs.Quad.{wordAt, quadAt, putQuad, blankQuad, mergeQuadOf}
 use Rattle.words.proofs.QuadLaws.{put-length}
 use Rattle.geometry.specs.declared.banks.Geometry.{Geometry}
 use Rattle.geometry.specs.Banks.{InRange, pagesOf, pageQuadsOf, bankWordsOf}
-use Rattle.geometry.specs.Decline.{acceptedOf}
-use Rattle.geometry.specs.Sequence.{sequenceQuadOf, sequenceIndexOf, nextSequenceOf}
+use Rattle.words.specs.Decline.{acceptedOf}
+use Rattle.map.specs.Sequence.{sequenceQuadOf, sequenceIndexOf, nextSequenceOf}
 use Rattle.geometry.proofs.SizeLaws.{in-range}
 use Rattle.device.specs.declared.record.Device.{Device}
 use Rattle.device.specs.Record.{running}

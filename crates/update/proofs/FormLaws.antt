@@ -12,7 +12,7 @@ use lib.ListN.{length, getD}
 use Rattle.words.specs.Word.{pick}
 use Rattle.words.proofs.PickLaws.{pick-both}
 use Rattle.geometry.specs.declared.banks.Geometry.{Geometry}
-use Rattle.geometry.specs.declared.decline.Decline.{Decline}
+use Rattle.words.specs.declared.decline.Decline.{Decline}
 use Rattle.geometry.specs.Banks.{inRangeOf, InRange, pageQuadsOf, pagesOf, bankWordsOf}
 use Rattle.device.specs.declared.record.Device.{Device}
 use Rattle.device.specs.Record.{running}

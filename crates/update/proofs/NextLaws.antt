@@ -12,9 +12,9 @@ use lib.ListN.{length, getD, take}
 use Rattle.words.specs.Word.{pick}
 use Rattle.words.specs.Quad.{wordAt, quadAt, putQuad, blankQuad}
 use Rattle.geometry.specs.declared.banks.Geometry.{Geometry}
-use Rattle.geometry.specs.declared.decline.Decline.{Decline}
+use Rattle.words.specs.declared.decline.Decline.{Decline}
 use Rattle.geometry.specs.Banks.{inRangeOf, InRange, pagesOf, pageQuadsOf, bankWordsOf}
-use Rattle.geometry.specs.Decline.{acceptedOf}
+use Rattle.words.specs.Decline.{acceptedOf}
 use Rattle.geometry.proofs.SizeLaws.{in-range}
 use Rattle.device.specs.declared.record.Device.{Device}
 use Rattle.device.specs.Record.{running}

@@ -16,7 +16,7 @@ use Rattle.words.specs.Word.{pick, hasOf, mergeOf, clearOf, allOnes}
 use Rattle.words.specs.Quad.{wordAt, quadAt, putQuad, blankQuad}
 use Rattle.geometry.specs.declared.banks.Geometry.{Geometry}
 use Rattle.geometry.specs.Banks.{InRange, pagesOf, pageQuadsOf, bankWordsOf}
-use Rattle.geometry.specs.Sequence.{sequenceQuadOf, sequenceIndexOf}
+use Rattle.map.specs.Sequence.{sequenceQuadOf, sequenceIndexOf}
 use Rattle.geometry.proofs.SizeLaws.{in-range}
 use Rattle.device.specs.declared.record.Device.{Device}
 use Rattle.device.specs.Registers.{WR, WREN, WRERR, PFSWAP, BFSWAP, NVMOP}

@@ -10,7 +10,7 @@ use Rattle.words.specs.Word.{pick, hasOf}
 use Rattle.words.specs.Quad.{wordAt}
 use Rattle.geometry.specs.declared.banks.Geometry.{Geometry}
 use Rattle.geometry.specs.Banks.{inRangeOf, pagesOf, pageQuadsOf, programBytesOf, bankWordsOf}
-use Rattle.geometry.specs.Sequence.{sequenceIndexOf, tseqOf, validOf}
+use Rattle.map.specs.Sequence.{sequenceIndexOf, tseqOf, validOf}
 use Rattle.device.specs.declared.record.Device.{Device}
 use Rattle.device.specs.Registers.{UBWPULOCK}
 use Rattle.device.specs.Record.{withCon, bfswap, pfswap}

@@ -14,7 +14,7 @@ use Rattle.words.specs.Quad.{wordAt, quadAt, putQuad, blankQuad}
 use Rattle.words.proofs.PickLaws.{pick-both}
 use Rattle.geometry.specs.declared.banks.Geometry.{Geometry}
 use Rattle.geometry.specs.Banks.{InRange, bankWordsOf}
-use Rattle.geometry.specs.Sequence.{sequenceQuadOf, sequenceIndexOf, nextSequenceOf}
+use Rattle.map.specs.Sequence.{sequenceQuadOf, sequenceIndexOf, nextSequenceOf}
 use Rattle.geometry.proofs.SizeLaws.{in-range}
 use Rattle.device.specs.declared.record.Device.{Device}
 use Rattle.device.specs.Registers.{WR, WREN, WRERR, PFSWAP, BFSWAP, NVMOP}

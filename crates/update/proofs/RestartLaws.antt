@@ -16,7 +16,7 @@ use Rattle.words.proofs.BitLaws.{true-not-false, bit-and, bit-or, merge-bit, cl
 use Rattle.words.proofs.MaskLaws.{merge-set}
 use Rattle.geometry.specs.declared.banks.Geometry.{Geometry}
 use Rattle.geometry.specs.Banks.{inRangeOf}
-use Rattle.geometry.specs.Decline.{acceptedOf}
+use Rattle.words.specs.Decline.{acceptedOf}
 use Rattle.geometry.proofs.SizeLaws.{in-range}
 use Rattle.device.specs.declared.record.Device.{Device}
 use Rattle.device.specs.Registers.{WR, WREN, LVDERR, PFSWAP, BFSWAP, NVMOP, UBWPULOCK, NVMERS, SWAPLOCK}

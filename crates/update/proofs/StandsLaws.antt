@@ -12,7 +12,7 @@ use lib.Arith.{digits-lt}
 use lib.ListN.{length}
 use Rattle.geometry.specs.declared.banks.Geometry.{Geometry}
 use Rattle.geometry.specs.Banks.{InRange, pagesOf, pageQuadsOf}
-use Rattle.geometry.specs.Decline.{acceptedOf}
+use Rattle.words.specs.Decline.{acceptedOf}
 use Rattle.geometry.proofs.SizeLaws.{in-range}
 use Rattle.device.specs.declared.record.Device.{Device}
 use Rattle.machine.specs.Machine.{State, left, Sound}

@@ -13,11 +13,11 @@ use Rattle.words.specs.Word.{pick, hasOf}
 use Rattle.words.specs.Quad.{wordAt}
 use Rattle.words.proofs.PickLaws.{and-both}
 use Rattle.geometry.specs.declared.banks.Geometry.{Geometry}
-use Rattle.geometry.specs.declared.decline.Decline.{Decline}
+use Rattle.words.specs.declared.decline.Decline.{Decline}
 use Rattle.geometry.specs.Banks.{inRangeOf, InRange, programBytesOf, bankWordsOf}
-use Rattle.geometry.specs.Decline.{acceptedOf}
-use Rattle.geometry.specs.Sequence.{sequenceIndexOf, validOf}
-use Rattle.geometry.proofs.DeclineLaws.{held, passed, neither}
+use Rattle.words.specs.Decline.{acceptedOf}
+use Rattle.map.specs.Sequence.{sequenceIndexOf, validOf}
+use Rattle.words.proofs.DeclineLaws.{held, passed, neither}
 use Rattle.geometry.proofs.SizeLaws.{in-range}
 use Rattle.device.specs.declared.record.Device.{Device}
 use Rattle.device.specs.Registers.{UBWPULOCK}

@@ -13,11 +13,11 @@ use borrow.Author.Tests.{lt-leb, le-ltb, lt-ltb, ltb-true, ltb-false}
 use Rattle.words.specs.Word.{pick, bit}
 use Rattle.words.specs.Quad.{blankQuad, quadAt}
 use Rattle.geometry.specs.declared.banks.Geometry.{Geometry}
-use Rattle.geometry.specs.declared.windows.Location.{Location}
+use Rattle.map.specs.declared.windows.Location.{Location}
 use Rattle.geometry.specs.Banks.{InRange, pagesOf, pageBytesOf, pageQuadsOf, bootQuadsOf, programBytesOf, roundDownOf}
-use Rattle.geometry.specs.Windows.{upperBoot, upperProgram, windowStartOf, windowBytesOf, located, locateOf, pageOf, quadIndexOf, inSecondOf}
+use Rattle.map.specs.Windows.{upperBoot, upperProgram, windowStartOf, windowBytesOf, located, locateOf, pageOf, quadIndexOf, inSecondOf}
 use Rattle.geometry.proofs.SizeLaws.{Unit, quad-unit, page-unit}
-use Rattle.geometry.proofs.WindowLaws.{window-found, round-found, page-below}
+use Rattle.map.proofs.WindowLaws.{window-found, round-found, page-below}
 use Rattle.device.specs.declared.record.Device.{Device}
 use Rattle.device.specs.Record.{opOf, bfswap, pfswap}
 use Rattle.device.specs.Protection.{programProtectedOf}

@@ -12,10 +12,10 @@ use lib.ListN.{length}
 use borrow.Author.Tests.{eq-eqb, lt-ltb, ne-eqb}
 use Rattle.words.specs.Word.{pick}
 use Rattle.geometry.specs.declared.banks.Geometry.{Geometry}
-use Rattle.geometry.specs.declared.decline.Decline.{Decline}
+use Rattle.words.specs.declared.decline.Decline.{Decline}
 use Rattle.geometry.specs.Banks.{inRangeOf, bankWordsOf}
-use Rattle.geometry.specs.Decline.{acceptedOf}
-use Rattle.geometry.proofs.DeclineLaws.{neither}
+use Rattle.words.specs.Decline.{acceptedOf}
+use Rattle.words.proofs.DeclineLaws.{neither}
 use Rattle.device.specs.Opening.{openingOf}
 use Rattle.device.proofs.OpeningLaws.{ready, opens}
 use Rattle.machine.specs.Machine.{State, left, Sound}

@@ -6,10 +6,10 @@ use mathlib.Core.List.{List}
 use lib.ListN.{length, set, replicate}
 use Rattle.words.specs.Word.{allOnes}
 use Rattle.geometry.specs.declared.banks.Geometry.{Geometry}
-use Rattle.geometry.specs.declared.decline.Decline.{Decline}
+use Rattle.words.specs.declared.decline.Decline.{Decline}
 use Rattle.geometry.specs.Banks.{pagesOf, bankWordsOf}
-use Rattle.geometry.specs.Decline.{numberOf, acceptedOf}
-use Rattle.geometry.specs.Sequence.{sequenceIndexOf}
+use Rattle.words.specs.Decline.{numberOf, acceptedOf}
+use Rattle.map.specs.Sequence.{sequenceIndexOf}
 use Rattle.device.specs.Record.{powerOn}
 use Rattle.device.specs.Bench as device-bench
 use Rattle.machine.specs.Machine.{State, state}

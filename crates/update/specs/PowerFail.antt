@@ -7,8 +7,8 @@ use mathlib.Core.Logic.{_⊎_}
 use lib.ListN.{length}
 use Rattle.words.specs.Quad.{wordAt, putQuad}
 use Rattle.geometry.specs.declared.banks.Geometry.{Geometry}
-use Rattle.geometry.specs.Decline.{acceptedOf}
-use Rattle.geometry.specs.Sequence.{sequenceQuadOf, nextSequenceOf}
+use Rattle.words.specs.Decline.{acceptedOf}
+use Rattle.map.specs.Sequence.{sequenceQuadOf, nextSequenceOf}
 use Rattle.device.specs.Record.{bfswap, pfswap}
 use Rattle.access.specs.StartUp.{startUpOf}
 use Rattle.flash.specs.Step.{After}

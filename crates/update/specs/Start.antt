@@ -8,10 +8,10 @@ use lib.Bits.{bitAnd}
 use Rattle.words.specs.Word.{pick, hasOf}
 use Rattle.words.specs.Quad.{wordAt}
 use Rattle.geometry.specs.declared.banks.Geometry.{Geometry}
-use Rattle.geometry.specs.declared.decline.Decline.{Decline}
+use Rattle.words.specs.declared.decline.Decline.{Decline}
 use Rattle.geometry.specs.Banks.{programBytesOf}
-use Rattle.geometry.specs.Decline.{acceptedOf, firstOf}
-use Rattle.geometry.specs.Sequence.{sequenceIndexOf, tseqOf, cseqOf, validOf}
+use Rattle.words.specs.Decline.{acceptedOf, firstOf}
+use Rattle.map.specs.Sequence.{sequenceIndexOf, tseqOf, cseqOf, validOf}
 use Rattle.device.specs.declared.record.Device.{Device}
 use Rattle.device.specs.Registers.{UBWPULOCK}
 use Rattle.device.specs.Record.{running, bfswap, pfswap}

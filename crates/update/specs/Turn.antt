@@ -7,8 +7,8 @@ use lib.Dec.{eqb, ltb}
 use lib.ListN.{length}
 use Rattle.words.specs.Word.{pick}
 use Rattle.geometry.specs.declared.banks.Geometry.{Geometry}
-use Rattle.geometry.specs.declared.decline.Decline.{Decline}
-use Rattle.geometry.specs.Decline.{acceptedOf, firstOf}
+use Rattle.words.specs.declared.decline.Decline.{Decline}
+use Rattle.words.specs.Decline.{acceptedOf, firstOf}
 use Rattle.device.specs.declared.record.Device.{Device}
 use Rattle.device.specs.Record.{running}
 use Rattle.device.specs.Opening.{openingOf}

@@ -11,8 +11,8 @@ use geometry::banks::Geometry;
 use geometry::banks::boot_quads;
 use geometry::banks::page_quads;
 use geometry::banks::program_bytes;
-use geometry::sequence::next_sequence;
-use geometry::sequence::sequence_quad;
+use map::sequence::next_sequence;
+use map::sequence::sequence_quad;
 use words::quad::quad_at;
 
 // Where a quad of a bank stands on the upper side.

@@ -13,12 +13,12 @@ use device::registers::Nvmbwp;
 use device::registers::Nvmcon;
 use geometry::banks::Geometry;
 use geometry::banks::program_bytes;
-use geometry::decline::Decline;
 use geometry::lent::Lent;
-use geometry::sequence::cseq;
-use geometry::sequence::is_valid;
-use geometry::sequence::sequence_index;
-use geometry::sequence::tseq;
+use map::sequence::cseq;
+use map::sequence::is_valid;
+use map::sequence::sequence_index;
+use map::sequence::tseq;
+use words::decline::Decline;
 use words::word::has;
 
 // The answer to an update start: the first place and the total, 0 where it is declined.

@@ -5,7 +5,7 @@ ghost use Rattle.update.specs.Turn.{turning, turnOf};
 use crate::turn::turn;
 use device::record::Device;
 use geometry::banks::Geometry;
-use geometry::decline::Decline;
+use words::decline::Decline;
 
 // The answer to a turn whose device is lent.
 pub struct Outcome {

@@ -17,8 +17,8 @@ use device::record::Device;
 use device::registers::Nvmcon;
 use flash::step::step_accepted;
 use geometry::banks::Geometry;
-use geometry::decline::Decline;
 use geometry::lent::Lent;
+use words::decline::Decline;
 use words::word::has;
 
 // The answer to a turn. Where it is declined, and at the total, everything is as before.

@@ -2,3 +2,4 @@ pub mod PickLaws
 pub mod BitLaws
 pub mod MaskLaws
 pub mod QuadLaws
+pub mod DeclineLaws

@@ -1,7 +1,7 @@
 -- The first test that fails decides.
 use borrow.Author.Needs.{needs}
 use mathlib.Core.Path.{sym, _∙_}
-use Rattle.geometry.proofs.DeclineLaws.{stopped, went-on}
+use Rattle.words.proofs.DeclineLaws.{stopped, went-on}
 use Rattle.access.specs.StartUp.{startUpDeclineOf}
 use Rattle.access.proofs.start_up.start_up_decline.Statement.{statement}
 use Rattle.access.proofs.start_up.start_up_decline.Tie as tie

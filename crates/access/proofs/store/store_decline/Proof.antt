@@ -2,7 +2,7 @@
 use borrow.Author.Needs.{needs}
 use borrow.Author.Tests.{not-true, not-false}
 use mathlib.Core.Path.{sym, _∙_}
-use Rattle.geometry.proofs.DeclineLaws.{stopped, went-on}
+use Rattle.words.proofs.DeclineLaws.{stopped, went-on}
 use Rattle.access.specs.Store.{storeDeclineOf}
 use Rattle.access.proofs.store.store_decline.Statement.{statement}
 use Rattle.access.proofs.store.store_decline.Tie as tie

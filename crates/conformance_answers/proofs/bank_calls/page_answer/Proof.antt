@@ -8,7 +8,7 @@ use lib.ListN.{length, length-take}
 use borrow.Author.Needs.{needs}
 use borrow.Author.Tests.{not-false}
 use Rattle.geometry.specs.Banks.{InRange, pageWordsOf}
-use Rattle.geometry.specs.Decline.{acceptedOf}
+use Rattle.words.specs.Decline.{acceptedOf}
 use Rattle.controller.specs.Parts.{pageDeclineOf, pagePartOf}
 use Rattle.controller.proofs.AcceptedLaws.{page-lies}
 use Rattle.conformance_answers.proofs.bank_calls.page_answer.Statement.{statement}

@@ -1,7 +1,7 @@
 -- Accepted, the bank by BFSWAP; declined, nothing is asked of the reference and it is empty.
 use mathlib.Core.Path.{sym, ap, _∙_}
 use borrow.Author.Needs.{needs}
-use Rattle.geometry.specs.Decline.{acceptedOf}
+use Rattle.words.specs.Decline.{acceptedOf}
 use Rattle.controller.specs.Parts.{lowerBankOf}
 use Rattle.words.proofs.BitLaws.{true-not-false}
 use Rattle.controller.proofs.parts.lower_bank.Statement.{statement}

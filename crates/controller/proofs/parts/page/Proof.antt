@@ -7,7 +7,7 @@ use native.Mathlib.Omega.{arith}
 use lib.ListN.{length}
 use borrow.Author.Needs.{needs}
 use Rattle.geometry.specs.Banks.{InRange, pageWordsOf}
-use Rattle.geometry.specs.Decline.{acceptedOf}
+use Rattle.words.specs.Decline.{acceptedOf}
 use Rattle.controller.specs.Parts.{pageDeclineOf, pagePartOf}
 use Rattle.words.proofs.BitLaws.{true-not-false}
 use Rattle.controller.proofs.AcceptedLaws.{page-lies}

@@ -2,7 +2,7 @@
 use borrow.Author.Needs.{needs}
 use borrow.Author.Tests.{lt-ltb, le-ltb}
 use native.Mathlib.Omega.{arith}
-use Rattle.geometry.proofs.DeclineLaws.{stopped, went-on}
+use Rattle.words.proofs.DeclineLaws.{stopped, went-on}
 use Rattle.geometry.proofs.LentLaws.{fits}
 use Rattle.controller.specs.Parts.{pageDeclineOf}
 use Rattle.controller.proofs.parts.page_decline.Statement.{statement}

@@ -2,7 +2,7 @@
 use borrow.Author.Needs.{needs}
 use borrow.Author.Tests.{not-true, not-false}
 use mathlib.Core.Path.{sym, _∙_}
-use Rattle.geometry.proofs.DeclineLaws.{went-on}
+use Rattle.words.proofs.DeclineLaws.{went-on}
 use Rattle.controller.specs.Read.{flashReadOf}
 use Rattle.controller.proofs.AcceptedLaws.{read-ready}
 use Rattle.controller.proofs.read.flash_read.Statement.{statement}

@@ -2,7 +2,7 @@
 use borrow.Author.Needs.{needs}
 use borrow.Author.Tests.{not-true, not-false}
 use mathlib.Core.Path.{sym, _∙_}
-use Rattle.geometry.proofs.DeclineLaws.{stopped, went-on}
+use Rattle.words.proofs.DeclineLaws.{stopped, went-on}
 use Rattle.device.proofs.OpeningLaws.{ready}
 use Rattle.controller.specs.Read.{flashReadDeclineOf}
 use Rattle.controller.proofs.read.flash_read_decline.Statement.{statement}

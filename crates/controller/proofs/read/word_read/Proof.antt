@@ -2,8 +2,8 @@
 use mathlib.Core.Path.{sym, _∙_}
 use borrow.Author.Needs.{needs}
 use native.Mathlib.Omega.{arith}
-use Rattle.geometry.specs.Windows.{locateOf}
-use Rattle.geometry.proofs.WindowLaws.{stands, word-in-bank}
+use Rattle.map.specs.Windows.{locateOf}
+use Rattle.map.proofs.WindowLaws.{stands, word-in-bank}
 use Rattle.controller.proofs.read.word_read.Statement.{statement}
 use Rattle.controller.proofs.read.word_read.Tie as tie
 

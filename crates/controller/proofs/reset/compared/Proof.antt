@@ -1,7 +1,7 @@
 -- The sequence word lies in each bank.
 use borrow.Author.Needs.{needs}
 use native.Mathlib.Omega.{arith}
-use Rattle.geometry.proofs.SequenceLaws.{sequence-in-bank}
+use Rattle.map.proofs.SequenceLaws.{sequence-in-bank}
 use Rattle.controller.proofs.reset.compared.Statement.{statement}
 use Rattle.controller.proofs.reset.compared.Tie as tie
 

@@ -3,7 +3,7 @@ use borrow.Author.Needs.{needs}
 use borrow.Author.Tests.{not-true}
 use mathlib.Core.Path.{sym, _∙_}
 use native.Mathlib.Omega.{arith}
-use Rattle.geometry.proofs.DeclineLaws.{went-on}
+use Rattle.words.proofs.DeclineLaws.{went-on}
 use Rattle.controller.specs.Reset.{resetOf}
 use Rattle.controller.proofs.AcceptedLaws.{reset-ready}
 use Rattle.controller.proofs.reset.reset.Statement.{statement}

@@ -1,7 +1,7 @@
 -- The first test that fails decides.
 use borrow.Author.Needs.{needs}
 use borrow.Author.Tests.{lt-ltb, le-ltb}
-use Rattle.geometry.proofs.DeclineLaws.{stopped, went-on}
+use Rattle.words.proofs.DeclineLaws.{stopped, went-on}
 use Rattle.controller.specs.Reset.{resetDeclineOf}
 use Rattle.controller.proofs.reset.reset_decline.Statement.{statement}
 use Rattle.controller.proofs.reset.reset_decline.Tie as tie

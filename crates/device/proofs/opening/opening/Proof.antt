@@ -2,7 +2,7 @@
 use borrow.Author.Tests.{not-true, not-false}
 use mathlib.Core.Path.{sym, _∙_}
 use borrow.Author.Needs.{needs}
-use Rattle.geometry.proofs.DeclineLaws.{stopped, went-on}
+use Rattle.words.proofs.DeclineLaws.{stopped, went-on}
 use Rattle.geometry.proofs.LentLaws.{fits}
 use Rattle.device.specs.Opening.{openingOf}
 use Rattle.device.proofs.opening.opening.Statement.{statement}

@@ -2,7 +2,7 @@
 use borrow.Author.Tests.{not-true, not-false}
 use borrow.Author.Needs.{needs}
 use mathlib.Core.Path.{ap}
-use Rattle.geometry.specs.declared.windows.Location.{Location}
+use Rattle.map.specs.declared.windows.Location.{Location}
 use Rattle.device.specs.Protection.{protectedOf}
 use Rattle.device.specs.Operation.{targetBeginsOf}
 use Rattle.device.proofs.OperationLaws.{target-page}

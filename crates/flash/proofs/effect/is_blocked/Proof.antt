@@ -1,7 +1,7 @@
 -- Each way through the tests is a case of the definition.
 use borrow.Author.Needs.{needs}
 use native.Mathlib.Omega.{arith}
-use Rattle.geometry.proofs.WindowLaws.{page-below}
+use Rattle.map.proofs.WindowLaws.{page-below}
 use Rattle.flash.specs.Effect.{blockedOf}
 use Rattle.flash.proofs.effect.is_blocked.Statement.{statement}
 use Rattle.flash.proofs.effect.is_blocked.Tie as tie

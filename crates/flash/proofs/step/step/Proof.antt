@@ -2,7 +2,7 @@
 use borrow.Author.Needs.{needs}
 use borrow.Author.Tests.{not-true, not-false}
 use mathlib.Core.Path.{sym, _∙_}
-use Rattle.geometry.proofs.DeclineLaws.{stopped, went-on}
+use Rattle.words.proofs.DeclineLaws.{stopped, went-on}
 use Rattle.flash.specs.Step.{stepOf}
 use Rattle.flash.proofs.AcceptedLaws.{step-ready}
 use Rattle.flash.proofs.step.step.Statement.{statement}

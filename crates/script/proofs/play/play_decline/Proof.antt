@@ -2,7 +2,7 @@
 use borrow.Author.Needs.{needs}
 use borrow.Author.Tests.{not-true, not-false}
 use mathlib.Core.Path.{sym, _∙_}
-use Rattle.geometry.proofs.DeclineLaws.{stopped, went-on}
+use Rattle.words.proofs.DeclineLaws.{stopped, went-on}
 use Rattle.script.specs.Play.{playDeclineOf}
 use Rattle.script.proofs.play.play_decline.Statement.{statement}
 use Rattle.script.proofs.play.play_decline.Tie as tie

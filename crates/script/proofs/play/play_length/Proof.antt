@@ -2,7 +2,7 @@
 use borrow.Author.Needs.{needs}
 use borrow.Author.Tests.{not-true}
 use mathlib.Core.Path.{sym, _∙_}
-use Rattle.geometry.proofs.DeclineLaws.{went-on}
+use Rattle.words.proofs.DeclineLaws.{went-on}
 use Rattle.machine.specs.Machine.{state}
 use Rattle.script.specs.Play.{playOf, playLengthOf}
 use Rattle.script.proofs.PlayLaws.{length-accepted}

@@ -2,7 +2,7 @@
 use mathlib.Core.Path.{sym, _∙_}
 use borrow.Author.Needs.{needs}
 use native.Mathlib.Omega.{arith}
-use Rattle.geometry.proofs.SequenceLaws.{sequence-in-bank}
+use Rattle.map.proofs.SequenceLaws.{sequence-in-bank}
 use Rattle.update.proofs.start.other_word.Statement.{statement}
 use Rattle.update.proofs.start.other_word.Tie as tie
 

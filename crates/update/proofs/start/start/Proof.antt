@@ -3,7 +3,7 @@ use mathlib.Core.Path.{_≡_, refl, sym, _∙_}
 use borrow.Author.Tests.{not-true, not-false}
 use borrow.Author.Needs.{needs}
 use native.Mathlib.Omega.{arith}
-use Rattle.geometry.proofs.DeclineLaws.{neither, went-on, stopped}
+use Rattle.words.proofs.DeclineLaws.{neither, went-on, stopped}
 use Rattle.device.proofs.OpeningLaws.{ready}
 use Rattle.device.specs.Opening.{openingOf}
 use Rattle.update.specs.Start.{startDeclineOf, startOf}

@@ -6,8 +6,8 @@ use lib.Dec.{eqb}
 use borrow.Author.Tests.{eq-eqb, ne-eqb, not-true, not-false}
 use borrow.Author.Needs.{needs}
 use native.Mathlib.Omega.{arith}
-use Rattle.geometry.specs.Sequence.{tseqOf}
-use Rattle.geometry.proofs.DeclineLaws.{stopped, went-on}
+use Rattle.map.specs.Sequence.{tseqOf}
+use Rattle.words.proofs.DeclineLaws.{stopped, went-on}
 use Rattle.device.proofs.OpeningLaws.{ready}
 use Rattle.update.specs.Start.{startDeclineOf}
 use Rattle.update.proofs.start.start_decline.Statement.{statement}

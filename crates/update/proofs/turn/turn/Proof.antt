@@ -4,7 +4,7 @@ use Prim.Native.Nat.{_<_}
 use borrow.Author.Tests.{eq-eqb, ne-eqb, lt-ltb, le-ltb}
 use borrow.Author.Needs.{needs}
 use native.Mathlib.Omega.{arith}
-use Rattle.geometry.proofs.DeclineLaws.{stopped, went-on}
+use Rattle.words.proofs.DeclineLaws.{stopped, went-on}
 use Rattle.device.proofs.OpeningLaws.{ready}
 use Rattle.update.specs.Actions.{totalOf}
 use Rattle.update.specs.Turn.{turning, actOf, turnDeclineOf, turnOf}

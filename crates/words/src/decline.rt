@@ -1,0 +1,68 @@
+// Why a call is declined, as one list for every layer.
+ghost use mathlib.Core.Path.{_≡_};
+ghost use Rattle.words.specs.Decline.{numberOf, acceptedOf};
+
+pub enum Decline {
+    // 0: the call is not declined.
+    Accepted,
+    // 1: Q, B or P is outside its list or range.
+    Geometry,
+    // 2: a bank, an image or the SRAM has a wrong length.
+    Length,
+    // 3: the device record is impossible.
+    Device,
+    // 4: no such register or form.
+    Register,
+    // 5: WR = 1.
+    Running,
+    // 6: a step with WR = 0.
+    Idle,
+    // 7: no such reset kind.
+    ResetKind,
+    // 8: no such address or page.
+    Address,
+    // 9: the bank is being worked on.
+    Busy,
+    // 10: the sequence words or the mapping do not allow an update.
+    Sequence,
+    // 11: the last sequence number is in use.
+    LastSequence,
+    // 12: the protection does not allow an update.
+    Protection,
+    // 13: a place past the total.
+    Place,
+    // 14: not a script.
+    Script,
+}
+
+impl Decline {
+    // The paper's number of a decline.
+    pub fn number(self) -> u32
+        ensures { λ r. ⌜ r ≡ numberOf self ⌝ }
+    {
+        match self {
+            Decline::Accepted => 0,
+            Decline::Geometry => 1,
+            Decline::Length => 2,
+            Decline::Device => 3,
+            Decline::Register => 4,
+            Decline::Running => 5,
+            Decline::Idle => 6,
+            Decline::ResetKind => 7,
+            Decline::Address => 8,
+            Decline::Busy => 9,
+            Decline::Sequence => 10,
+            Decline::LastSequence => 11,
+            Decline::Protection => 12,
+            Decline::Place => 13,
+            Decline::Script => 14,
+        }
+    }
+
+    // Whether the call was carried out.
+    pub fn is_accepted(self) -> bool
+        ensures { λ r. ⌜ r ≡ acceptedOf self ⌝ }
+    {
+        self.number() == 0
+    }
+}
