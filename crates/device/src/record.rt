@@ -8,6 +8,7 @@ use crate::registers::Nvmpwp;
 use crate::registers::reset_value;
 
 // The eleven registers, the key step and the step number of the running operation.
+#[repr(C)]
 pub struct Device {
     pub nvmcon: Nvmcon,
     pub nvmkey: u32,

@@ -4,6 +4,7 @@ ghost use Prim.Native.Nat.{_<_};
 ghost use lib.ListN.{getD};
 ghost use Rattle.device.specs.Registers.{masks, resets, withinOf};
 
+#[repr(C)]
 pub struct Nvmcon(pub u32);
 
 impl Nvmcon {
@@ -30,6 +31,7 @@ impl Nvmcon {
     }
 }
 
+#[repr(C)]
 pub struct Nvmpwp(pub u32);
 
 impl Nvmpwp {
@@ -46,6 +48,7 @@ impl Nvmpwp {
     }
 }
 
+#[repr(C)]
 pub struct Nvmbwp(pub u32);
 
 impl Nvmbwp {
@@ -69,6 +72,7 @@ impl Nvmbwp {
     }
 }
 
+#[repr(C)]
 pub struct Nvmcon2(pub u32);
 
 impl Nvmcon2 {

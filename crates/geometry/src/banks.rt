@@ -4,6 +4,7 @@ ghost use Prim.Native.Nat.{_<_};
 ghost use Rattle.geometry.specs.Banks.{listedOf, inRangeOf, InRange, pagesOf, rowBytesOf, pageBytesOf, pageWordsOf, pageQuadsOf, bootBytesOf, bootWordsOf, bootQuadsOf, programBytesOf, bankWordsOf, roundDownOf};
 
 // Q quads per row, B boot pages and P program pages per bank, as a caller lends them.
+#[repr(C)]
 pub struct Geometry {
     pub q: u32,
     pub b: u32,

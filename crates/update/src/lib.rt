@@ -2,5 +2,4 @@
 mod actions;
 mod programming;
 pub mod start;
-pub mod thin;
 pub mod turn;

@@ -47,21 +47,22 @@ use Rattle.device.specs.declared.record.Device.{Device}
 use Rattle.device.proofs.record.Device as D
 use Rattle.device.proofs.record.Device.Laws as D′
 use Rattle.machine.specs.Machine.{state}
-use Rattle.update.specs.Turn.{turning, turnOf}
-use Rattle.update.specs.declared.thin.Outcome.{Outcome}
-use Rattle.update.specs.declared.thin.Parts.{Parts}
-use Rattle.update.proofs.thin.Outcome as O
-use Rattle.update.proofs.thin.Outcome.Laws as O′
-use Rattle.update.proofs.thin.Parts as P
-use Rattle.update.proofs.thin.Parts.Laws as P′
-use Rattle.update.proofs.thin.turn_apart as turn-apart
-use Rattle.update.proofs.thin.turn_apart.Symbol as turn-apart-def
-use Rattle.update.proofs.thin.turn_apart.Symbol.{name as #update·thin·turn-apart}
-use Rattle.update.proofs.thin.turn_apart.Met as turn-apart-thm
-use Rattle.update.proofs.thin.turn_lent.Key.{name as #update·thin·turn-lent}
-use Rattle.update.proofs.thin.turn_lent as turn-lent
-use Rattle.update.proofs.thin.turn_lent.Statement as stated
-use Rattle.update.proofs.thin.turn_lent.Code as code
+use Rattle.update.specs.Turn.{turnOf}
+use Rattle.yohrundel.specs.Answers.{TurnGives}
+use Rattle.yohrundel.specs.declared.answers.TurnOutcome.{TurnOutcome}
+use Rattle.yohrundel.specs.declared.answers.TurnAnswer.{TurnAnswer}
+use Rattle.yohrundel.proofs.answers.TurnOutcome as O
+use Rattle.yohrundel.proofs.answers.TurnOutcome.Laws as O′
+use Rattle.yohrundel.proofs.answers.TurnAnswer as P
+use Rattle.yohrundel.proofs.answers.TurnAnswer.Laws as P′
+use Rattle.yohrundel.proofs.update_calls.turn_answer as turn-answer
+use Rattle.yohrundel.proofs.update_calls.turn_answer.Symbol as turn-answer-def
+use Rattle.yohrundel.proofs.update_calls.turn_answer.Symbol.{name as #yohrundel·update-calls·turn-answer}
+use Rattle.yohrundel.proofs.update_calls.turn_answer.Met as turn-answer-thm
+use Rattle.yohrundel.proofs.thin.yohrundel_turn_lent.Key.{name as #yohrundel·thin·yohrundel-turn-lent}
+use Rattle.yohrundel.proofs.thin.yohrundel_turn_lent as turn-lent
+use Rattle.yohrundel.proofs.thin.yohrundel_turn_lent.Statement as stated
+use Rattle.yohrundel.proofs.thin.yohrundel_turn_lent.Code as code
 
 abbrev Dev : Slot 5
 Dev = plain (λ _. D.the-row)
@@ -85,8 +86,8 @@ stayed = (
 )
 
 -- the contract of the call
-abbrev Apart : {M : Type 1} (𝓤 : URA M) (H : Heap 𝓤) (A : Atoms 𝓤) (mem : Memory → SProp 𝓤) (run : Routine → Fun 𝓤) → Contract 𝓤
-Apart 𝓤 H A mem run = tripleOf 𝓤 H A turn-apart.signature (turn-apart.spec 𝓤 H A mem run)
+abbrev Answer : {M : Type 1} (𝓤 : URA M) (H : Heap 𝓤) (A : Atoms 𝓤) (mem : Memory → SProp 𝓤) (run : Routine → Fun 𝓤) → Contract 𝓤
+Answer 𝓤 H A mem run = tripleOf 𝓤 H A turn-answer.signature (turn-answer.spec 𝓤 H A mem run)
 
 module _ {M : Type 1} (𝓤 : URA M) (H : Heap 𝓤) (A : Atoms 𝓤) (W : Given 𝓤 H A) (at-mem : Memory → SProp 𝓤) (run : Routine → Fun 𝓤) (κ κ₁ κ₂ κ₃ κ₄ : Lft) (bounds : AllOutlive 5 (turn-lent.signature .outlives) (κ, (κ₁, (κ₂, (κ₃, (κ₄, tt)))))) (q q₁ q₂ q₃ q₄ : Share)
     (geo : Geometry) (b o : ℕ) (γ : GName) (h : Device) (one two image sram : RefT (List ℕ)) (place : ℕ) where
@@ -106,7 +107,7 @@ module _ {M : Type 1} (𝓤 : URA M) (H : Heap 𝓤) (A : Atoms 𝓤) (W : Given
   abbrev mach : Device → Val
   mach d = LL.val D.the-type D′.the-laws d
 
-  abbrev machO : Outcome → Val
+  abbrev machO : TurnOutcome → Val
   machO r = LL.val O.the-type O′.the-laws r
 
   abbrev tail-vals : List Val × (List Val × (List Val × (List Val × (List Val × Unit {0}))))
@@ -121,8 +122,8 @@ module _ {M : Type 1} (𝓤 : URA M) (H : Heap 𝓤) (A : Atoms 𝓤) (W : Given
   abbrev Post : Val → SProp 𝓤
   Post = walkOf 𝓤 H A turn-lent.ended stayed (turn-lent.clauses 𝓤 H A at-mem run) .post Y
 
-  abbrev to-apart : Apart 𝓤 H A at-mem run .Ghost
-  to-apart = (((κ₁, (κ₂, (κ₃, (κ₄, tt)))), (q₁, (q₂, (q₃, (q₄, tt)))), tt, (geo, (h, tail)), (machG ∷ [], (mach h ∷ [], tail-vals))), tt)
+  abbrev to-answer : Answer 𝓤 H A at-mem run .Ghost
+  to-answer = (((κ₁, (κ₂, (κ₃, (κ₄, tt)))), (q₁, (q₂, (q₃, (q₄, tt)))), tt, (geo, (h, tail)), (machG ∷ [], (mach h ∷ [], tail-vals))), tt)
 
   -- what the parameters after the device own, and the tokens of their lifetimes
   abbrev Tail : Fml
@@ -132,10 +133,10 @@ module _ {M : Type 1} (𝓤 : URA M) (H : Heap 𝓤) (A : Atoms 𝓤) (W : Given
   Tokens = ‵ (flft κ₁ q₁) ⊛ ‵ (flft κ₂ q₂) ⊛ ‵ (flft κ₃ q₃) ⊛ ‵ (flft κ₄ q₄) ⊛ ‵ ftrue
 
   -- what the call ensures
-  abbrev Says : Parts → List ℕ → List ℕ → Type 0
-  Says r ys zs = turning (r .outcome .decline) (r .outcome .done) (state (r .device) ys zs) (r .outcome .place) (r .outcome .event) ≡ turnOf geo (state h (one .now) (two .now)) (image .now) (sram .now) place
+  abbrev Says : TurnAnswer → List ℕ → List ℕ → Type 0
+  Says r ys zs = TurnGives (turnOf geo (state h (one .now) (two .now)) (image .now) (sram .now) place) (r .outcome) (state (r .device) ys zs)
 
-  goes : Is D.the-row h (mach h ∷ []) → ent 𝓤 (sep 𝓤 (mean 𝓤 H A Tokens) (sep 𝓤 (sem 𝓤 H A (G.the-row .own geo (machG ∷ []))) (sem 𝓤 H A Tail))) (Apart 𝓤 H A at-mem run .pre to-apart)
+  goes : Is D.the-row h (mach h ∷ []) → ent 𝓤 (sep 𝓤 (mean 𝓤 H A Tokens) (sep 𝓤 (sem 𝓤 H A (G.the-row .own geo (machG ∷ []))) (sem 𝓤 H A Tail))) (Answer 𝓤 H A at-mem run .pre to-answer)
   goes g =
       qed W (Tokens ∷ ‵ (G.the-row .own geo (machG ∷ [])) ∷ ‵ Tail ∷ []) ∵
       move ! (2 ∷ []) $ owned ! D.the-row (Is D.the-row) (LL.makes D.the-type D′.the-plain 𝓤 H A) h _ g $ fjoin ! $ move ! (2 ∷ 0 ∷ []) $ fjoin ! $ move ! (1 ∷ 0 ∷ []) $ join ! $ frame ! $ done !
@@ -143,7 +144,7 @@ module _ {M : Type 1} (𝓤 : URA M) (H : Heap 𝓤) (A : Atoms 𝓤) (W : Given
   abbrev Left : Device → List ℕ → List ℕ → List (Item 𝓤)
   Left d ys zs = ‵ (fobs γ (D.the-row .coded .code d)) ∷ ‵ (fbor κ (Body (mem D.the-row) b o γ)) ∷ ‵ (flft κ q) ∷ Tokens ∷ ‵ (finally u32 (one .name) ys) ∷ ‵ (finally u32 (two .name) zs) ∷ []
 
-  exits : (r : Parts) (ys zs : List ℕ) → Is O.the-row (r .outcome) (machO (r .outcome) ∷ []) → Says r ys zs → length ys ≡ length (one .now) → length zs ≡ length (two .now) → ent 𝓤 (⋆ 𝓤 H A (Left (r .device) ys zs)) (Post (machO (r .outcome)))
+  exits : (r : TurnAnswer) (ys zs : List ℕ) → Is O.the-row (r .outcome) (machO (r .outcome) ∷ []) → Says r ys zs → length ys ≡ length (one .now) → length zs ≡ length (two .now) → ent 𝓤 (⋆ 𝓤 H A (Left (r .device) ys zs)) (Post (machO (r .outcome)))
   exits r ys zs is e same-one same-two =
       qed W (Left (r .device) ys zs) ∵
       suffices ! _ (ends-at 𝓤 H A turn-lent.ended stayed (turn-lent.clauses 𝓤 H A at-mem run) W Y (machO (r .outcome)) (r .outcome) (tt, (r .device, (ys, (zs, (tt, (tt, (tt, tt))))))) (tt, (tt, (same-one, (same-two, (tt, (tt, (tt, tt)))))))) $ says ! e $
@@ -151,7 +152,7 @@ module _ {M : Type 1} (𝓤 : URA M) (H : Heap 𝓤) (A : Atoms 𝓤) (W : Given
       nothing ! $ nothing ! $ fjoin ! $ nothing ! $ fjoin ! $ nothing ! $ fjoin ! $ move ! (3 ∷ 0 ∷ []) $ fjoin ! $ move ! (2 ∷ 0 ∷ []) $ fjoin ! $ move ! (1 ∷ 0 ∷ []) $ fjoin ! $ nothing ! $ fjoin ! $
       frame ! $ owned ! O.the-row (Is O.the-row) (LL.makes O.the-type O′.the-plain 𝓤 H A) (r .outcome) _ is $ done !
 
-  module _ (C : Calls 𝓤 H) (Λ : Loops 𝓤 H) (fm : FmC 𝓤 H (W .laws) C) (known : Triple 𝓤 (C #update·thin·turn-apart) (Apart 𝓤 H A at-mem run)) (is-geo : Is G.the-row geo (machG ∷ [])) (room-one : Room u32 (length (one .now))) (room-two : Room u32 (length (two .now)))
+  module _ (C : Calls 𝓤 H) (Λ : Loops 𝓤 H) (fm : FmC 𝓤 H (W .laws) C) (known : Triple 𝓤 (C #yohrundel·update-calls·turn-answer) (Answer 𝓤 H A at-mem run)) (is-geo : Is G.the-row geo (machG ∷ [])) (room-one : Room u32 (length (one .now))) (room-two : Room u32 (length (two .now)))
       (is-image : Is (ShrSlice (named 3) κ₃ u32) image (s image ∷ [])) (is-sram : Is (ShrSlice (named 4) κ₄ u32) sram (s sram ∷ [])) (place-fits : place < 2 ^ 32) where
     walk : ent 𝓤 (onEntry 𝓤 H A turn-lent.signature (κ, (κ₁, (κ₂, (κ₃, (κ₄, tt))))) (q, (q₁, (q₂, (q₃, (q₄, tt))))) a vals) (WpFn 𝓤 H C Λ code.function (machG ∷ vptr b o ∷ s one ∷ s two ∷ s image ∷ s sram ∷ vint w32 place ∷ []) Post)
     walk =
@@ -170,11 +171,11 @@ module _ {M : Type 1} (𝓤 : URA M) (H : Heap 𝓤) (A : Atoms 𝓤) (W : Given
         assigns ! (addr ! (from ! (fld ! refl (hop ! (look-in ! 26 (sub ! 0 refl (whole !))) (stop !))))) (from ! (stop !)) (init ! 10 refl (tt, tt)) $
         assigns ! (agg ! (and-then ! (load ! (from ! (stop !)) (look ! 10 refl)) (and-then ! (load ! (from ! (fld ! refl (stop !))) (look-in ! 26 (sub ! 1 refl (whole !)))) (no-more !)))) (from ! (stop !)) (init ! 8 refl (tt, (tt, (record { fits = room-two .0 }, tt)))) $
         -- the call, at the parameters' own lifetimes, shares and names
-        move ! (5 ∷ 7 ∷ 6 ∷ []) $ use3 W (raw (Apart 𝓤 H A at-mem run .pre to-apart)) (goes g) $
-        calls-at ! fm (Apart 𝓤 H A at-mem run) known to-apart (and-then ! (load ! (from ! (stop !)) (look ! 30 refl)) (and-then ! (load ! (from ! (stop !)) (look ! 14 refl)) (and-then ! (load ! (from ! (stop !)) (look ! 10 refl)) (and-then ! (load ! (from ! (stop !)) (look ! 6 refl))
+        move ! (5 ∷ 7 ∷ 6 ∷ []) $ use3 W (raw (Answer 𝓤 H A at-mem run .pre to-answer)) (goes g) $
+        calls-at ! fm (Answer 𝓤 H A at-mem run) known to-answer (and-then ! (load ! (from ! (stop !)) (look ! 30 refl)) (and-then ! (load ! (from ! (stop !)) (look ! 14 refl)) (and-then ! (load ! (from ! (stop !)) (look ! 10 refl)) (and-then ! (load ! (from ! (stop !)) (look ! 6 refl))
         (and-then ! (load ! (from ! (stop !)) (look ! 22 refl)) (and-then ! (load ! (from ! (stop !)) (look ! 20 refl)) (and-then ! (load ! (from ! (stop !)) (look ! 18 refl)) (no-more !)))))))) (λ w.
-        use1 W (later (some (λ (r : Parts). (Tokens ⊛ ‵ (P.the-row .own r (w ∷ []))) ⊛ raw (ensured 𝓤 H A turn-apart.ended (turn-apart.clauses 𝓤 H A at-mem run) (κ₁, (κ₂, (κ₃, (κ₄, tt)))) (geo, (h, tail)) tt r)))) (id⊢ 𝓤 _) $ await ! tt $ pick ! (λ r.
-        split ! $ move ! (1 ∷ []) $ use1 W (some (λ (zs : Unit {0} × (Unit {0} × (List ℕ × (List ℕ × (Unit {0} × (Unit {0} × (Unit {0} × Unit {0}))))))). ‵ (lasts turn-apart.ended (κ₁, (κ₂, (κ₃, (κ₄, tt)))) (geo, (h, tail)) zs) ⊛ raw (fact 𝓤 (Says r (zs .1 .1 .0) (zs .1 .1 .1 .0))))) (id⊢ 𝓤 _) $ pick ! (λ zs.
+        use1 W (later (some (λ (r : TurnAnswer). (Tokens ⊛ ‵ (P.the-row .own r (w ∷ []))) ⊛ raw (ensured 𝓤 H A turn-answer.ended (turn-answer.clauses 𝓤 H A at-mem run) (κ₁, (κ₂, (κ₃, (κ₄, tt)))) (geo, (h, tail)) tt r)))) (id⊢ 𝓤 _) $ await ! tt $ pick ! (λ r.
+        split ! $ move ! (1 ∷ []) $ use1 W (some (λ (zs : Unit {0} × (Unit {0} × (List ℕ × (List ℕ × (Unit {0} × (Unit {0} × (Unit {0} × Unit {0}))))))). ‵ (lasts turn-answer.ended (κ₁, (κ₂, (κ₃, (κ₄, tt)))) (geo, (h, tail)) zs) ⊛ raw (fact 𝓤 (Says r (zs .1 .1 .0) (zs .1 .1 .1 .0))))) (id⊢ 𝓤 _) $ pick ! (λ zs.
         split ! $ move ! (1 ∷ []) $ heard ! (Says r (zs .1 .1 .0) (zs .1 .1 .1 .0)) (λ e. fsplit ! $ move ! (1 ∷ []) $ fsplit ! $ move ! (1 ∷ []) $ fsplit ! $ fsplit ! $ move ! (1 ∷ []) $ feqL ! (λ same-one. move ! (1 ∷ []) $ fsplit ! $ fsplit ! $ move ! (1 ∷ []) $ feqL ! (λ same-two.
         -- bank 2's last list; …; bank 1's; …; …; the tokens and the result; …
         move ! (5 ∷ []) $ split ! $ move ! (1 ∷ []) $ peeks ! P.the-row (Is P.the-row) (shows 𝓤 H A P.the-row) r (w ∷ []) (λ is.
@@ -189,7 +190,7 @@ module _ {M : Type 1} (𝓤 : URA M) (H : Heap 𝓤) (A : Atoms 𝓤) (W : Given
         keep ! (0 ∷ 1 ∷ 2 ∷ 4 ∷ 7 ∷ 5 ∷ []) $ by ! (exits r (zs .1 .1 .0) (zs .1 .1 .1 .0) (LL.owed P.the-type P′.the-laws r _ is .1 .0) e same-one same-two))))))))))))))))))))))))
 
 module _ {M : Type 1} (𝓤 : URA M) (H : Heap 𝓤) (A : Atoms 𝓤) (W : Given 𝓤 H A) (mem : Memory → SProp 𝓤) (run : Routine → Fun 𝓤) where
-  turn-lent-walks : (C : Calls 𝓤 H) (Λ : Loops 𝓤 H) → FmC 𝓤 H (W .laws) C → Triple 𝓤 (C #update·thin·turn-apart) (Apart 𝓤 H A mem run) → Walks 𝓤 H A turn-lent.ended stayed (WpFn 𝓤 H C Λ code.function) (turn-lent.clauses 𝓤 H A mem run)
+  turn-lent-walks : (C : Calls 𝓤 H) (Λ : Loops 𝓤 H) → FmC 𝓤 H (W .laws) C → Triple 𝓤 (C #yohrundel·update-calls·turn-answer) (Answer 𝓤 H A mem run) → Walks 𝓤 H A turn-lent.ended stayed (WpFn 𝓤 H C Λ code.function) (turn-lent.clauses 𝓤 H A mem run)
   turn-lent-walks C Λ fm known = walked 𝓤 H A turn-lent.ended stayed (turn-lent.clauses 𝓤 H A mem run) (WpFn 𝓤 H C Λ code.function)
       (λ κs. (LL.vals G.the-type G′.the-laws, (ptr-vals, (slice-vals, (slice-vals, (slice-vals, (slice-vals, (uint-vals w32, tt))))))))
       (λ κs. (LL.tells G.the-type G′.the-laws, (mut-tells (named 0) (κs .0) D.the-row, (mut-slice-tells (named 1) (κs .1 .0) u32, (mut-slice-tells (named 2) (κs .1 .1 .0) u32, (shr-slice-tells (named 3) (κs .1 .1 .1 .0) u32, (shr-slice-tells (named 4) (κs .1 .1 .1 .1 .0) u32, (uint-tells w32, tt))))))))
@@ -212,16 +213,16 @@ module _ {M : Type 1} (𝓤 : URA M) (H : Heap 𝓤) (A : Atoms 𝓤) (W : Given
     ),
   )
 
-turn-lent-meets : {M : Type 1} (𝓤 : URA M) (H : Heap 𝓤) (A : Atoms 𝓤) → Given 𝓤 H A → (mem : Memory → SProp 𝓤) (run : Routine → Fun 𝓤) (𝓣 : Tables 𝓤 H) → Triple 𝓤 (𝓣 .C #update·thin·turn-apart) (Apart 𝓤 H A mem run)
+turn-lent-meets : {M : Type 1} (𝓤 : URA M) (H : Heap 𝓤) (A : Atoms 𝓤) → Given 𝓤 H A → (mem : Memory → SProp 𝓤) (run : Routine → Fun 𝓤) (𝓣 : Tables 𝓤 H) → Triple 𝓤 (𝓣 .C #yohrundel·update-calls·turn-answer) (Answer 𝓤 H A mem run)
     → Meets 𝓤 H A turn-lent.signature (WpFn 𝓤 H (𝓣 .C) (𝓣 .Λ) code.function) (turn-lent.spec 𝓤 H A mem run)
 turn-lent-meets 𝓤 H A W mem run 𝓣 known =
     walk-meets 𝓤 H A turn-lent.ended stayed W (goes-all 𝓤 H A W mem run) (turn-lent.clauses 𝓤 H A mem run)
     (WpFn 𝓤 H (𝓣 .C) (𝓣 .Λ) code.function) (WpFn-mono 𝓤 H (W .laws) 𝓣 code.function) (turn-lent-walks 𝓤 H A W mem run (𝓣 .C) (𝓣 .Λ) (fmOf 𝓤 H (W .laws) 𝓣) known)
 
-pub turn-lent-spec : {M : Type 1} → stated.statement M
+pub yohrundel-turn-lent-spec : {M : Type 1} → stated.statement M
 unfolding code.routine tablesOf
-turn-lent-spec 𝓤 H 𝓜 𝓖 𝓡 =
+yohrundel-turn-lent-spec 𝓤 H 𝓜 𝓖 𝓡 =
     entered 𝓤 H (tripleOf 𝓤 H (𝓖 .A) turn-lent.signature (turn-lent.spec 𝓤 H (𝓖 .A) (𝓜 .mem) (𝓡 .run)))
-    (tables 𝓤 H 𝓜 𝓡 code.env .C) (tables 𝓤 H 𝓜 𝓡 code.env .Λ) #update·thin·turn-lent code.function (code.unfolded 𝓤 H 𝓜 𝓡)
+    (tables 𝓤 H 𝓜 𝓡 code.env .C) (tables 𝓤 H 𝓜 𝓡 code.env .Λ) #yohrundel·thin·yohrundel-turn-lent code.function (code.unfolded 𝓤 H 𝓜 𝓡)
     (turn-lent-meets 𝓤 H (𝓖 .A) (givenOf 𝓤 H 𝓜 𝓖) (𝓜 .mem) (𝓡 .run) (tablesOf 𝓤 H 𝓜 (tables 𝓤 H 𝓜 𝓡 code.env))
-    (cited 𝓤 H (Apart 𝓤 H (𝓖 .A) (𝓜 .mem) (𝓡 .run)) 𝓜 𝓡 code.env #update·thin·turn-apart turn-apart-def.routine code.calls-update·thin·turn-apart (turn-apart-thm.met 𝓤 H 𝓜 𝓖 𝓡)))
+    (cited 𝓤 H (Answer 𝓤 H (𝓖 .A) (𝓜 .mem) (𝓡 .run)) 𝓜 𝓡 code.env #yohrundel·update-calls·turn-answer turn-answer-def.routine code.calls-yohrundel·update-calls·turn-answer (turn-answer-thm.met 𝓤 H 𝓜 𝓖 𝓡)))

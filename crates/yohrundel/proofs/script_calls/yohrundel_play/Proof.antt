@@ -1,0 +1,15 @@
+-- The call's answer, its decline as a number.
+use borrow.Author.Needs.{needs}
+use Rattle.yohrundel.proofs.script_calls.yohrundel_play.Statement.{statement}
+use Rattle.yohrundel.proofs.script_calls.yohrundel_play.Tie as tie
+
+pub yohrundel-play-spec : {M : Type 1} → statement M
+yohrundel-play-spec =
+    tie.close
+    (tie.spec
+    (λ c κs. search needs)
+    (λ c κs. search needs)
+    (λ c. search needs)
+    (λ c. search needs)
+    (λ c. search needs)
+    (λ c. let e = c .before .before .before .before .before .before .before .before .play .ensures in (rw (c .number .ensures, ← e), (rw (← e), (rw (← e), rw (← e))))))

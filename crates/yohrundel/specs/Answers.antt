@@ -1,0 +1,88 @@
+-- What the exported calls answer: the result of each call's definition, its decline as the paper's number. Assumes nothing.
+use Prim.Native.Nat.{ℕ, _*_}
+use mathlib.Core.Path.{_≡_}
+use mathlib.Core.List.{List}
+use lib.ListN.{length}
+use Rattle.words.specs.Word.{pick}
+use Rattle.words.specs.declared.decline.Decline.{Decline}
+use Rattle.words.specs.Decline.{numberOf, acceptedOf}
+use Rattle.geometry.specs.declared.banks.Geometry.{Geometry}
+use Rattle.geometry.specs.Banks.{pageWordsOf}
+use Rattle.device.specs.declared.record.Device.{Device}
+use Rattle.access.specs.declared.store.Stored.{Stored}
+use Rattle.access.specs.declared.store.RegisterRead.{RegisterRead}
+use Rattle.access.specs.declared.start_up.StartedUp.{StartedUp}
+use Rattle.flash.specs.Step.{After}
+use Rattle.controller.specs.declared.read.FlashRead.{FlashRead}
+use Rattle.controller.specs.Parts.{lowerBankDeclineOf, lowerOf, lowerBankOf, pageDeclineOf}
+use Rattle.machine.specs.Machine.{State}
+use Rattle.script.specs.declared.play.PlayLength.{PlayLength}
+use Rattle.script.specs.Play.{Playback}
+use Rattle.update.specs.declared.start.Started.{Started}
+use Rattle.update.specs.Turn.{Turning}
+use Rattle.yohrundel.specs.declared.answers.EventAnswer.{EventAnswer}
+use Rattle.yohrundel.specs.declared.answers.DeviceAnswer.{DeviceAnswer}
+use Rattle.yohrundel.specs.declared.answers.RegisterReadAnswer.{RegisterReadAnswer}
+use Rattle.yohrundel.specs.declared.answers.FlashReadAnswer.{FlashReadAnswer}
+use Rattle.yohrundel.specs.declared.answers.LowerBankAnswer.{LowerBankAnswer}
+use Rattle.yohrundel.specs.declared.answers.PageAnswer.{PageAnswer}
+use Rattle.yohrundel.specs.declared.answers.UpdateStartAnswer.{UpdateStartAnswer}
+use Rattle.yohrundel.specs.declared.answers.TurnOutcome.{TurnOutcome}
+use Rattle.yohrundel.specs.declared.answers.PlayAnswer.{PlayAnswer}
+use Rattle.yohrundel.specs.declared.answers.PlayLengthAnswer.{PlayLengthAnswer}
+
+-- ---- calls that lend nothing for writing: the answer is the definition's result
+
+abbrev pub storeAnswerOf : Stored → EventAnswer
+storeAnswerOf a = record { decline = numberOf (a .decline); event = a .event; device = a .device }
+
+abbrev pub registerReadAnswerOf : RegisterRead → RegisterReadAnswer
+registerReadAnswerOf a = record { decline = numberOf (a .decline); value = a .value; device = a .device }
+
+abbrev pub startUpAnswerOf : StartedUp → DeviceAnswer
+startUpAnswerOf a = record { decline = numberOf (a .decline); device = a .device }
+
+abbrev pub flashReadAnswerOf : FlashRead → FlashReadAnswer
+flashReadAnswerOf a = record { decline = numberOf (a .decline); word = a .word }
+
+abbrev pub updateStartAnswerOf : Started → UpdateStartAnswer
+updateStartAnswerOf a = record { decline = numberOf (a .decline); place = a .place; total = a .total }
+
+abbrev pub playLengthAnswerOf : PlayLength → PlayLengthAnswer
+playLengthAnswerOf a = record { decline = numberOf (a .decline); bytes = a .bytes }
+
+-- the lower-alias bank by its number, 1 or 2, and its length; 0 and 0 where it is declined (ours)
+unfoldable pub lowerBankAnswerOf : Geometry → Device → List ℕ → List ℕ → LowerBankAnswer
+lowerBankAnswerOf g d one two =
+    record {
+      decline = numberOf (lowerBankDeclineOf g d (length one) (length two));
+      bank = pick (acceptedOf (lowerBankDeclineOf g d (length one) (length two))) (lowerOf d 1 2) 0;
+      length = length (lowerBankOf g d one two);
+    }
+
+-- a page by the word of its bank at which it starts, and its length; 0 and 0 where it is declined (ours)
+unfoldable pub pageAnswerOf : Geometry → ℕ → ℕ → PageAnswer
+pageAnswerOf g words page =
+    record {
+      decline = numberOf (pageDeclineOf g words page);
+      offset = pick (acceptedOf (pageDeclineOf g words page)) (page * pageWordsOf g) 0;
+      length = pick (acceptedOf (pageDeclineOf g words page)) (pageWordsOf g) 0;
+    }
+
+-- ---- calls that lend banks or a buffer: the answer, and what the lent memory holds afterwards
+
+abbrev pub StepGives : After → EventAnswer → List ℕ → List ℕ → Type 0
+StepGives a r one two =
+    (r ≡ record { decline = numberOf (a .decline); event = a .event; device = a .device }) × ((one ≡ a .one) × (two ≡ a .two))
+
+abbrev pub ResetGives : After → DeviceAnswer → List ℕ → List ℕ → Type 0
+ResetGives a r one two =
+    (r ≡ record { decline = numberOf (a .decline); device = a .device }) × ((one ≡ a .one) × (two ≡ a .two))
+
+abbrev pub TurnGives : Turning → TurnOutcome → State → Type 0
+TurnGives a r s =
+    (r ≡ record { decline = numberOf (a .decline); place = a .place; done = a .done; event = a .event }) × (s ≡ a .state)
+
+abbrev pub PlayGives : Playback → PlayAnswer → List ℕ → List ℕ → List ℕ → Type 0
+PlayGives a r one two buffer =
+    (r ≡ record { decline = numberOf (a .decline); bytes = a .bytes; device = a .after .device }) × ((one ≡ a .after .one) × ((two ≡ a .after .two) × (buffer ≡ a .buffer)))

@@ -1,0 +1,88 @@
+// What the exported calls answer. In each, decline is 0 or the paper's number of why the call was declined.
+use device::record::Device;
+
+// The answer to a store and to a step.
+#[repr(C)]
+pub struct EventAnswer {
+    pub decline: u32,
+    pub event: bool,
+    pub device: Device,
+}
+
+// The answer to a reset and to a start-up.
+#[repr(C)]
+pub struct DeviceAnswer {
+    pub decline: u32,
+    pub device: Device,
+}
+
+#[repr(C)]
+pub struct RegisterReadAnswer {
+    pub decline: u32,
+    pub value: u32,
+    pub device: Device,
+}
+
+#[repr(C)]
+pub struct FlashReadAnswer {
+    pub decline: u32,
+    pub word: u32,
+}
+
+// The number of the bank on the lower alias, 1 or 2, and how many words it has; both 0 where the request is declined.
+#[repr(C)]
+pub struct LowerBankAnswer {
+    pub decline: u32,
+    pub bank: u32,
+    pub length: usize,
+}
+
+// The word of the lent bank at which a page starts, and how many words it has; both 0 where the request is declined.
+#[repr(C)]
+pub struct PageAnswer {
+    pub decline: u32,
+    pub offset: usize,
+    pub length: usize,
+}
+
+// The four words of a torn mask.
+#[repr(C)]
+pub struct Mask {
+    pub words: [u32; 4],
+}
+
+#[repr(C)]
+pub struct UpdateStartAnswer {
+    pub decline: u32,
+    pub place: u32,
+    pub total: u32,
+}
+
+// What a turn tells beside the device.
+#[repr(C)]
+pub struct TurnOutcome {
+    pub decline: u32,
+    pub place: u32,
+    pub done: bool,
+    pub event: bool,
+}
+
+#[repr(C)]
+pub struct TurnAnswer {
+    pub device: Device,
+    pub outcome: TurnOutcome,
+}
+
+// The bytes of the whole output: a shorter buffer holds the output's front.
+#[repr(C)]
+pub struct PlayAnswer {
+    pub decline: u32,
+    pub bytes: usize,
+    pub device: Device,
+}
+
+#[repr(C)]
+pub struct PlayLengthAnswer {
+    pub decline: u32,
+    pub bytes: usize,
+}

@@ -1,0 +1,74 @@
+// The exported calls on a device alone.
+ghost use mathlib.Core.Path.{_≡_};
+ghost use Rattle.device.specs.Record.{powerOn};
+ghost use Rattle.access.specs.Store.{storeOf, registerReadOf};
+ghost use Rattle.access.specs.StartUp.{startUpOf};
+ghost use Rattle.yohrundel.specs.Answers.{storeAnswerOf, registerReadAnswerOf, startUpAnswerOf};
+use crate::answers::DeviceAnswer;
+use crate::answers::EventAnswer;
+use crate::answers::RegisterReadAnswer;
+use access::start_up::start_up;
+use access::store::register_read;
+use access::store::store;
+use device::record::Device;
+use device::record::power_on;
+use geometry::banks::Geometry;
+
+// The device after power-on, before any comparison of banks.
+#[no_mangle]
+pub extern "C" fn yohrundel_power_on() -> Device
+    ensures { λ r. ⌜ r ≡ powerOn ⌝ }
+{
+    power_on()
+}
+
+#[no_mangle]
+pub extern "C" fn yohrundel_store(
+    g: Geometry,
+    d: Device,
+    register: u32,
+    form: u32,
+    value: u32,
+) -> EventAnswer
+    ensures { λ r. ⌜ r ≡ storeAnswerOf (storeOf g d register form value) ⌝ }
+{
+    let a = store(g, d, register, form, value);
+    let decline = a.decline;
+    let device = a.device;
+    EventAnswer {
+        decline: decline.number(),
+        event: a.event,
+        device,
+    }
+}
+
+#[no_mangle]
+pub extern "C" fn yohrundel_register_read(
+    g: Geometry,
+    d: Device,
+    register: u32,
+) -> RegisterReadAnswer
+    ensures { λ r. ⌜ r ≡ registerReadAnswerOf (registerReadOf g d register) ⌝ }
+{
+    let a = register_read(g, d, register);
+    let decline = a.decline;
+    let device = a.device;
+    RegisterReadAnswer {
+        decline: decline.number(),
+        value: a.value,
+        device,
+    }
+}
+
+#[no_mangle]
+pub extern "C" fn yohrundel_start_up(g: Geometry, d: Device) -> DeviceAnswer
+    ensures { λ r. ⌜ r ≡ startUpAnswerOf (startUpOf g d) ⌝ }
+{
+    let a = start_up(g, d);
+    let decline = a.decline;
+    let device = a.device;
+    DeviceAnswer {
+        decline: decline.number(),
+        device,
+    }
+}

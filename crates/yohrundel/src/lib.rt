@@ -1,0 +1,7 @@
+// The calls for programs in other languages: numbers, lent slices and structs by value. include/yohrundel.h declares them for C.
+mod answers;
+mod bank_calls;
+mod device_calls;
+mod script_calls;
+mod thin;
+mod update_calls;

@@ -1,0 +1,52 @@
+// The exported calls that play a script.
+ghost use mathlib.Core.Path.{_≡_};
+ghost use Rattle.machine.specs.Machine.{state};
+ghost use Rattle.script.specs.Play.{playOf, playLengthOf};
+ghost use Rattle.yohrundel.specs.Answers.{playLengthAnswerOf, PlayGives};
+use crate::answers::PlayAnswer;
+use crate::answers::PlayLengthAnswer;
+use device::record::Device;
+use geometry::banks::Geometry;
+use script::play::play;
+use script::play::play_length;
+
+#[no_mangle]
+pub extern "C" fn yohrundel_play(
+    g: Geometry,
+    d: Device,
+    one: &mut [u32],
+    two: &mut [u32],
+    sram: &[u32],
+    script: &[u8],
+    out: &mut [u8],
+) -> PlayAnswer
+    ensures { λ r. ⌜ PlayGives (playOf g (now (sram .entry)) (state d (now (one .entry)) (now (two .entry))) (now (script .entry)) (now (out .entry))) r (now (one .exit)) (now (two .exit)) (now (out .exit)) ⌝ }
+{
+    let a = play(g, d, one, two, sram, script, out);
+    let decline = a.decline;
+    let device = a.device;
+    PlayAnswer {
+        decline: decline.number(),
+        bytes: a.bytes,
+        device,
+    }
+}
+
+#[no_mangle]
+pub extern "C" fn yohrundel_play_length(
+    g: Geometry,
+    d: Device,
+    one: &[u32],
+    two: &[u32],
+    sram: &[u32],
+    script: &[u8],
+) -> PlayLengthAnswer
+    ensures { λ r. ⌜ r ≡ playLengthAnswerOf (playLengthOf g (now (sram .entry)) (state d (now (one .entry)) (now (two .entry))) (now (script .entry))) ⌝ }
+{
+    let a = play_length(g, d, one, two, sram, script);
+    let decline = a.decline;
+    PlayLengthAnswer {
+        decline: decline.number(),
+        bytes: a.bytes,
+    }
+}

@@ -1,0 +1,26 @@
+// The exported turn with the device record lent.
+ghost use Rattle.machine.specs.Machine.{state};
+ghost use Rattle.update.specs.Turn.{turnOf};
+ghost use Rattle.yohrundel.specs.Answers.{TurnGives};
+use crate::answers::TurnOutcome;
+use crate::update_calls::turn_answer;
+use device::record::Device;
+use geometry::banks::Geometry;
+
+// One turn with the device record lent: taken apart, turned by value, and stored back.
+#[no_mangle]
+pub extern "C" fn yohrundel_turn_lent(
+    g: Geometry,
+    d: &mut Device,
+    one: &mut [u32],
+    two: &mut [u32],
+    image: &[u32],
+    sram: &[u32],
+    place: u32,
+) -> TurnOutcome
+    ensures { λ r. ⌜ TurnGives (turnOf g (state (now (d .entry)) (now (one .entry)) (now (two .entry))) (now (image .entry)) (now (sram .entry)) place) r (state (now (d .exit)) (now (one .exit)) (now (two .exit))) ⌝ }
+{
+    let t = turn_answer(g, *d, one, two, image, sram, place);
+    *d = t.device;
+    t.outcome
+}

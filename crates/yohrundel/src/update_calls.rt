@@ -1,0 +1,71 @@
+// The exported calls of an update, the device by value.
+ghost use mathlib.Core.Path.{_≡_};
+ghost use Rattle.machine.specs.Machine.{state};
+ghost use Rattle.update.specs.Start.{startOf};
+ghost use Rattle.update.specs.Turn.{turnOf};
+ghost use Rattle.yohrundel.specs.Answers.{updateStartAnswerOf, TurnGives};
+use crate::answers::TurnAnswer;
+use crate::answers::TurnOutcome;
+use crate::answers::UpdateStartAnswer;
+use device::record::Device;
+use geometry::banks::Geometry;
+use update::start::start;
+use update::turn::turn;
+
+#[no_mangle]
+pub extern "C" fn yohrundel_update_start(
+    g: Geometry,
+    d: Device,
+    one: &[u32],
+    two: &[u32],
+    image: &[u32],
+) -> UpdateStartAnswer
+    ensures { λ r. ⌜ r ≡ updateStartAnswerOf (startOf g (state d (now (one .entry)) (now (two .entry))) (now (image .entry))) ⌝ }
+{
+    let a = start(g, d, one, two, image);
+    let decline = a.decline;
+    UpdateStartAnswer {
+        decline: decline.number(),
+        place: a.place,
+        total: a.total,
+    }
+}
+
+// A turn, its answer as numbers.
+pub fn turn_answer(
+    g: Geometry,
+    d: Device,
+    one: &mut [u32],
+    two: &mut [u32],
+    image: &[u32],
+    sram: &[u32],
+    place: u32,
+) -> TurnAnswer
+    ensures { λ r. ⌜ TurnGives (turnOf g (state d (now (one .entry)) (now (two .entry))) (now (image .entry)) (now (sram .entry)) place) (r .outcome) (state (r .device) (now (one .exit)) (now (two .exit))) ⌝ }
+{
+    let a = turn(g, d, one, two, image, sram, place);
+    let decline = a.decline;
+    let outcome = TurnOutcome {
+        decline: decline.number(),
+        place: a.place,
+        done: a.done,
+        event: a.event,
+    };
+    let device = a.device;
+    TurnAnswer { device, outcome }
+}
+
+#[no_mangle]
+pub extern "C" fn yohrundel_turn(
+    g: Geometry,
+    d: Device,
+    one: &mut [u32],
+    two: &mut [u32],
+    image: &[u32],
+    sram: &[u32],
+    place: u32,
+) -> TurnAnswer
+    ensures { λ r. ⌜ TurnGives (turnOf g (state d (now (one .entry)) (now (two .entry))) (now (image .entry)) (now (sram .entry)) place) (r .outcome) (state (r .device) (now (one .exit)) (now (two .exit))) ⌝ }
+{
+    turn_answer(g, d, one, two, image, sram, place)
+}
