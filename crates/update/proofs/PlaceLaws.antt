@@ -4,7 +4,7 @@ use mathlib.Core.Path.{_≡_, refl, sym, ap, _∙_}
 use mathlib.Core.Bool.{Bool, true, false}
 use mathlib.Core.List.{List, [], _∷_, _++_}
 use Prim.Native.Nat.{ℕ, zero, suc, _+_, _-_, _*_, _/_, _%_, _≤_, _<_}
-use native.Mathlib.Nat.{not-suc-le-zero, div-lt-iff-lt-mul, le-div-iff-mul-le}
+use native.Mathlib.Nat.{not-suc-le-zero, div-lt-iff-lt-mul}
 use native.Mathlib.Omega.{arith}
 use lib.Arith.{digits-lt, digits-div, digits-mod}
 use lib.Dec.{ltb}
@@ -102,15 +102,9 @@ launch-of-quad g j words k lo hi =
     ∙ sym (getD-append-add first (stored (launchStores 2) ++ (Step ∷ stored endStores)) (k - 5) Step)
     ∙ ap (λ (n : ℕ). getD (quadBlock g j words) n Step) e
 
-module _ (g : Geometry) (place : ℕ) (late : 12 ≤ place) where
-  block-some : 0 < pageActions g
-  block-some = omega arith
-
-  pub in-pages : (place - 12) / pageActions g < pagesOf g → place < programmingFrom g
-  in-pages l = omega (arith, div-lt-iff-lt-mul {x = place - 12} {y = pagesOf g} block-some .0 l)
-
-  pub past-pages : pagesOf g ≤ (place - 12) / pageActions g → programmingFrom g ≤ place
-  past-pages l = omega (arith, le-div-iff-mul-le {x = pagesOf g} {y = place - 12} block-some .0 l)
+-- a place of the erasing is one of a page's
+pub page-at : (g : Geometry) (place : ℕ) → 12 ≤ place → place < programmingFrom g → (place - 12) / pageActions g < pagesOf g
+page-at g place late l = div-lt-iff-lt-mul {k = pageActions g} {x = place - 12} {y = pagesOf g} (omega arith) .1 (omega arith)
 
 -- ---- a number by what it is not
 pub later : {k n : ℕ} → n ≤ k → (k ≡ n → ⊥) → suc n ≤ k
@@ -132,8 +126,5 @@ pub five-less : {k : ℕ} → 5 ≤ k → k < 11 → k - 5 < 6
 five-less lo hi = omega arith
 
 -- what is left of a place past the pages
-pub rest-place : (g : Geometry) (place : ℕ) → place - 12 - pagesOf g * pageActions g ≡ place - programmingFrom g
-rest-place g place = omega arith
-
 pub rest-below : (g : Geometry) (place : ℕ) → programmingFrom g ≤ place → place < totalOf g → (place - programmingFrom g) / 13 < bankQuadsOf g
 rest-below g place l m = div-lt-iff-lt-mul {k = 13} {x = place - programmingFrom g} {y = bankQuadsOf g} (omega arith) .1 (omega (arith, total-place g))

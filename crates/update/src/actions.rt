@@ -105,10 +105,11 @@ pub fn action_at(g: Geometry, image: &[u32], w: u32, place: u32) -> Action
         return prologue_action(place);
     }
     let block = 8 + page_quads(g);
-    let from = place - 12;
-    if from / block < pages(g) {
+    let programming = 12 + pages(g) * block;
+    if place < programming {
+        let from = place - 12;
         return page_action(g, erased_page(g, from / block), from % block);
     }
-    let rest = from - pages(g) * block;
-    quad_action(g, image, w, rest / 13, rest % 13)
+    let from = place - programming;
+    quad_action(g, image, w, from / 13, from % 13)
 }
