@@ -41,11 +41,13 @@ fn window_wait(minute: u32, duration: u32, start: u32, length: u32) -> u32
     if length < duration {
         return WEEK;
     }
-    let offset = (minute + (WEEK - start)) % WEEK;
-    if offset + duration <= length {
+    // Counted from the start: the present minute, and the last of the minutes where there is no wait.
+    let first = (minute + (WEEK - start)) % WEEK;
+    let last = first + (duration - 1);
+    if last < length {
         return 0;
     }
-    WEEK - offset
+    WEEK - first
 }
 
 // The smallest wait after which the minutes of a duration lie in one window. The windows are lent as start, length, start, length, ..
