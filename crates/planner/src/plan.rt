@@ -30,6 +30,7 @@ fn smaller(a: u32, b: u32) -> u32
 }
 
 // The least wait for one window, or WEEK where none fits: the window is entered at once, or at its next first minute.
+// No call of the planner: plan judges the ranges first.
 fn window_wait(minute: u32, duration: u32, start: u32, length: u32) -> u32
     requires { ⌜ (minute < week) × (1 ≤ duration) × (duration ≤ 1440) ⌝ }
     requires { ⌜ (start < week) × (length ≤ week) ⌝ }
