@@ -33,6 +33,10 @@ pub enum Decline {
     Place,
     // 14: not a script.
     Script,
+    // 15: a number of the plan is out of range.
+    Hours,
+    // 16: no wait fits.
+    NoWait,
 }
 
 impl Decline {
@@ -56,6 +60,8 @@ impl Decline {
             Decline::Protection => 12,
             Decline::Place => 13,
             Decline::Script => 14,
+            Decline::Hours => 15,
+            Decline::NoWait => 16,
         }
     }
 

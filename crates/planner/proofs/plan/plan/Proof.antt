@@ -1,0 +1,72 @@
+-- The invariant: the windows so far are in range, and the wait is the least by them. The measure is the windows that are left.
+use Prim.Native.Nat.{_-_, _≤_}
+use borrow.Author.Needs.{needs}
+use borrow.Author.Tests.{not-true, not-false}
+use lib.ListN.{length}
+use mathlib.Core.Bool.{true}
+use mathlib.Core.Path.{_≡_, refl, sym, _∙_}
+use native.Mathlib.Omega.{arith}
+use Rattle.planner.specs.Windows.{windowCountOf, windowsInRangeOf, numbersInRangeOf}
+use Rattle.planner.specs.Planner.{leastWaitOf}
+use Rattle.planner.proofs.RangeLaws.{numbers-range, window-range, windows-more, numbers-out, window-out}
+use Rattle.planner.proofs.LeastLaws.{least-none, least-more}
+use Rattle.planner.proofs.PlanLaws.{plan-out, plan-none, plan-found}
+use Rattle.planner.proofs.plan.plan.Statement.{statement}
+use Rattle.planner.proofs.plan.plan.Tie as tie
+
+abbrev Inv-loop : tie.InvT-loop
+Inv-loop minute duration windows wait₀ i₀ wait i =
+    (i ≤ windowCountOf windows)
+    × (numbersInRangeOf minute duration (length windows) ≡ true)
+    × (windowsInRangeOf windows i ≡ true)
+    × (wait ≡ leastWaitOf minute duration windows i)
+
+abbrev μ-loop : tie.MeasureT-loop
+μ-loop minute duration windows wait₀ i₀ wait i = windowCountOf windows - i
+
+pub plan-spec : {M : Type 1} → statement M
+plan-spec =
+    tie.close
+    (tie.spec
+    Inv-loop
+    μ-loop
+    (λ c κs. search needs)
+    (λ c κs. search needs)
+    (λ c.
+    let out = sym (c .before .before .numbers-in-range .ensures) ∙ not-true _ (c .before .if1 .taken) in
+    c .declined .ensures ∙ plan-out _ _ _ (numbers-out _ _ _ out))
+    (λ c.
+    let a = c .before .before .before .args in
+    let within = sym (c .before .numbers-in-range .ensures) ∙ not-false _ (c .if1 .left) in
+    (omega arith, within, refl, least-none (a .minute) (a .duration) (a .windows .now)))
+    (λ c. omega arith)
+    (λ c. omega arith)
+    (λ c. omega arith)
+    (λ c. omega arith)
+    (λ c. omega arith)
+    (λ c. omega arith)
+    (λ c. omega arith)
+    (λ c κs. search needs)
+    (λ c κs. search needs)
+    (λ c.
+    let out = sym (c .before .before .window-in-range .ensures) ∙ not-true _ (c .before .if2 .taken) in
+    c .declined2 .ensures ∙ plan-out _ _ _ (window-out _ _ _ (c .before .before .before .before .before .before .loop .i) (c .before .before .before .before .before .loop-test .taken) out))
+    (λ c κs.
+    let (count, numbers, windows, least) = c .before .before .before .before .before .loop .inv in
+    (numbers-range _ _ _ numbers, window-range _ (sym (c .before .window-in-range .ensures) ∙ not-false _ (c .if2 .left))))
+    (λ c κs. search needs)
+    (λ c. omega arith)
+    (λ c. omega arith)
+    (λ c.
+    let loop = c .before .before .before .before .before .before .before .loop in
+    let a = c .before .before .before .before .before .before .before .before .before .before .before .args in
+    let (count, numbers, windows, least) = loop .inv in
+    let within = sym (c .before .before .before .window-in-range .ensures) ∙ not-false _ (c .before .before .if2 .left) in
+    (omega arith, numbers, windows-more (a .windows .now) (loop .i) windows within, rw (c .smaller .ensures, least, c .before .window-wait .ensures) (least-more (a .minute) (a .duration) (a .windows .now) (loop .i))))
+    (λ c κs. search needs)
+    (λ c.
+    let (count, numbers, windows, least) = c .before .before .before .loop .inv in
+    c .declined3 .ensures ∙ plan-none _ _ _ _ _ count (c .before .before .loop-test .left) numbers windows least (c .before .if3 .taken))
+    (λ c.
+    let (count, numbers, windows, least) = c .before .before .loop .inv in
+    plan-found _ _ _ _ _ count (c .before .loop-test .left) numbers windows least (c .if3 .left)))

@@ -1,0 +1,4 @@
+pub mod Windows
+pub mod Planner
+pub mod PlanLaws
+pub mod Examples
