@@ -33,6 +33,8 @@ pub enum Decline {
     Place,
     // 14: not a script.
     Script,
+    // 22: the two lengths differ or are no multiple of 4.
+    Lanes,
 }
 
 impl Decline {
@@ -56,6 +58,7 @@ impl Decline {
             Decline::Protection => 12,
             Decline::Place => 13,
             Decline::Script => 14,
+            Decline::Lanes => 22,
         }
     }
 
