@@ -37,6 +37,8 @@ pub enum Decline {
     Hours,
     // 16: no wait fits.
     NoWait,
+    // 22: the two lengths differ or are no multiple of 4.
+    Lanes,
 }
 
 impl Decline {
@@ -62,6 +64,7 @@ impl Decline {
             Decline::Script => 14,
             Decline::Hours => 15,
             Decline::NoWait => 16,
+            Decline::Lanes => 22,
         }
     }
 

@@ -1,0 +1,7 @@
+pub mod TabulateLaws
+pub mod LaneLaws
+pub mod PutLaws
+pub mod MoveLaws
+pub mod DeclineLaws
+pub mod ImageBytesLaws
+pub mod RoundTrip
