@@ -15,11 +15,10 @@ use Rattle.access.specs.declared.start_up.StartedUp.{StartedUp}
 use Rattle.flash.specs.Step.{After}
 use Rattle.controller.specs.declared.read.FlashRead.{FlashRead}
 use Rattle.controller.specs.Parts.{lowerBankDeclineOf, lowerOf, lowerBankOf, pageDeclineOf}
-use Rattle.machine.specs.Machine.{State}
 use Rattle.script.specs.declared.play.PlayLength.{PlayLength}
 use Rattle.script.specs.Play.{Playback}
 use Rattle.update.specs.declared.start.Started.{Started}
-use Rattle.update.specs.Turn.{Turning}
+use Rattle.planner.specs.declared.plan.Planned.{Planned}
 use Rattle.yohrundel.specs.declared.answers.EventAnswer.{EventAnswer}
 use Rattle.yohrundel.specs.declared.answers.DeviceAnswer.{DeviceAnswer}
 use Rattle.yohrundel.specs.declared.answers.RegisterReadAnswer.{RegisterReadAnswer}
@@ -27,9 +26,9 @@ use Rattle.yohrundel.specs.declared.answers.FlashReadAnswer.{FlashReadAn
 use Rattle.yohrundel.specs.declared.answers.LowerBankAnswer.{LowerBankAnswer}
 use Rattle.yohrundel.specs.declared.answers.PageAnswer.{PageAnswer}
 use Rattle.yohrundel.specs.declared.answers.UpdateStartAnswer.{UpdateStartAnswer}
-use Rattle.yohrundel.specs.declared.answers.TurnOutcome.{TurnOutcome}
 use Rattle.yohrundel.specs.declared.answers.PlayAnswer.{PlayAnswer}
 use Rattle.yohrundel.specs.declared.answers.PlayLengthAnswer.{PlayLengthAnswer}
+use Rattle.yohrundel.specs.declared.answers.PlanAnswer.{PlanAnswer}
 
 -- ---- calls that lend nothing for writing: the answer is the definition's result
 
@@ -50,6 +49,9 @@ updateStartAnswerOf a = record { decline = numberOf (a .decline); place = a .pla
 
 abbrev pub playLengthAnswerOf : PlayLength → PlayLengthAnswer
 playLengthAnswerOf a = record { decline = numberOf (a .decline); bytes = a .bytes }
+
+abbrev pub planAnswerOf : Planned → PlanAnswer
+planAnswerOf a = record { decline = numberOf (a .decline); wait = a .wait }
 
 -- the lower-alias bank by its number, 1 or 2, and its length; 0 and 0 where it is declined (ours)
 unfoldable pub lowerBankAnswerOf : Geometry → Device → List ℕ → List ℕ → LowerBankAnswer
@@ -78,10 +80,6 @@ StepGives a r one two =
 abbrev pub ResetGives : After → DeviceAnswer → List ℕ → List ℕ → Type 0
 ResetGives a r one two =
     (r ≡ record { decline = numberOf (a .decline); device = a .device }) × ((one ≡ a .one) × (two ≡ a .two))
-
-abbrev pub TurnGives : Turning → TurnOutcome → State → Type 0
-TurnGives a r s =
-    (r ≡ record { decline = numberOf (a .decline); place = a .place; done = a .done; event = a .event }) × (s ≡ a .state)
 
 abbrev pub PlayGives : Playback → PlayAnswer → List ℕ → List ℕ → List ℕ → Type 0
 PlayGives a r one two buffer =

@@ -58,21 +58,6 @@ pub struct UpdateStartAnswer {
     pub total: u32,
 }
 
-// What a turn tells beside the device.
-#[repr(C)]
-pub struct TurnOutcome {
-    pub decline: u32,
-    pub place: u32,
-    pub done: bool,
-    pub event: bool,
-}
-
-#[repr(C)]
-pub struct TurnAnswer {
-    pub device: Device,
-    pub outcome: TurnOutcome,
-}
-
 // The bytes of the whole output: a shorter buffer holds the output's front.
 #[repr(C)]
 pub struct PlayAnswer {
@@ -85,4 +70,10 @@ pub struct PlayAnswer {
 pub struct PlayLengthAnswer {
     pub decline: u32,
     pub bytes: usize,
+}
+
+#[repr(C)]
+pub struct PlanAnswer {
+    pub decline: u32,
+    pub wait: u32,
 }

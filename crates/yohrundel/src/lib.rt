@@ -2,6 +2,6 @@
 mod answers;
 mod bank_calls;
 mod device_calls;
+mod request_calls;
 mod script_calls;
-mod thin;
 mod update_calls;

@@ -3,14 +3,14 @@ ghost use mathlib.Core.Path.{_≡_};
 ghost use Rattle.machine.specs.Machine.{state};
 ghost use Rattle.update.specs.Start.{startOf};
 ghost use Rattle.update.specs.Turn.{turnOf};
-ghost use Rattle.yohrundel.specs.Answers.{updateStartAnswerOf, TurnGives};
-use crate::answers::TurnAnswer;
-use crate::answers::TurnOutcome;
+ghost use Rattle.yohrundel_lent.specs.Answer.{TurnGives};
+ghost use Rattle.yohrundel.specs.Answers.{updateStartAnswerOf};
 use crate::answers::UpdateStartAnswer;
 use device::record::Device;
 use geometry::banks::Geometry;
 use update::start::start;
-use update::turn::turn;
+use yohrundel_lent::answer::TurnAnswer;
+use yohrundel_lent::answer::turn_answer;
 
 #[no_mangle]
 pub extern "C" fn yohrundel_update_start(
@@ -29,30 +29,6 @@ pub extern "C" fn yohrundel_update_start(
         place: a.place,
         total: a.total,
     }
-}
-
-// A turn, its answer as numbers.
-pub fn turn_answer(
-    g: Geometry,
-    d: Device,
-    one: &mut [u32],
-    two: &mut [u32],
-    image: &[u32],
-    sram: &[u32],
-    place: u32,
-) -> TurnAnswer
-    ensures { λ r. ⌜ TurnGives (turnOf g (state d (now (one .entry)) (now (two .entry))) (now (image .entry)) (now (sram .entry)) place) (r .outcome) (state (r .device) (now (one .exit)) (now (two .exit))) ⌝ }
-{
-    let a = turn(g, d, one, two, image, sram, place);
-    let decline = a.decline;
-    let outcome = TurnOutcome {
-        decline: decline.number(),
-        place: a.place,
-        done: a.done,
-        event: a.event,
-    };
-    let device = a.device;
-    TurnAnswer { device, outcome }
 }
 
 #[no_mangle]

@@ -1,7 +1,7 @@
 -- The call's answer, its decline as a number.
 use borrow.Author.Needs.{needs}
-use Rattle.yohrundel.proofs.update_calls.turn_answer.Statement.{statement}
-use Rattle.yohrundel.proofs.update_calls.turn_answer.Tie as tie
+use Rattle.yohrundel_lent.proofs.answer.turn_answer.Statement.{statement}
+use Rattle.yohrundel_lent.proofs.answer.turn_answer.Tie as tie
 
 pub turn-answer-spec : {M : Type 1} → statement M
 turn-answer-spec =

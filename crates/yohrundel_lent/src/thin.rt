@@ -1,9 +1,9 @@
 // The exported turn with the device record lent.
 ghost use Rattle.machine.specs.Machine.{state};
 ghost use Rattle.update.specs.Turn.{turnOf};
-ghost use Rattle.yohrundel.specs.Answers.{TurnGives};
-use crate::answers::TurnOutcome;
-use crate::update_calls::turn_answer;
+ghost use Rattle.yohrundel_lent.specs.Answer.{TurnGives};
+use crate::answer::TurnOutcome;
+use crate::answer::turn_answer;
 use device::record::Device;
 use geometry::banks::Geometry;
 

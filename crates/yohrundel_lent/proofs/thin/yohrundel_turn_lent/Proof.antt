@@ -48,21 +48,21 @@ use Rattle.device.proofs.record.Device as D
 use Rattle.device.proofs.record.Device.Laws as D′
 use Rattle.machine.specs.Machine.{state}
 use Rattle.update.specs.Turn.{turnOf}
-use Rattle.yohrundel.specs.Answers.{TurnGives}
-use Rattle.yohrundel.specs.declared.answers.TurnOutcome.{TurnOutcome}
-use Rattle.yohrundel.specs.declared.answers.TurnAnswer.{TurnAnswer}
-use Rattle.yohrundel.proofs.answers.TurnOutcome as O
-use Rattle.yohrundel.proofs.answers.TurnOutcome.Laws as O′
-use Rattle.yohrundel.proofs.answers.TurnAnswer as P
-use Rattle.yohrundel.proofs.answers.TurnAnswer.Laws as P′
-use Rattle.yohrundel.proofs.update_calls.turn_answer as turn-answer
-use Rattle.yohrundel.proofs.update_calls.turn_answer.Symbol as turn-answer-def
-use Rattle.yohrundel.proofs.update_calls.turn_answer.Symbol.{name as #yohrundel·update-calls·turn-answer}
-use Rattle.yohrundel.proofs.update_calls.turn_answer.Met as turn-answer-thm
-use Rattle.yohrundel.proofs.thin.yohrundel_turn_lent.Key.{name as #yohrundel·thin·yohrundel-turn-lent}
-use Rattle.yohrundel.proofs.thin.yohrundel_turn_lent as turn-lent
-use Rattle.yohrundel.proofs.thin.yohrundel_turn_lent.Statement as stated
-use Rattle.yohrundel.proofs.thin.yohrundel_turn_lent.Code as code
+use Rattle.yohrundel_lent.specs.Answer.{TurnGives}
+use Rattle.yohrundel_lent.specs.declared.answer.TurnOutcome.{TurnOutcome}
+use Rattle.yohrundel_lent.specs.declared.answer.TurnAnswer.{TurnAnswer}
+use Rattle.yohrundel_lent.proofs.answer.TurnOutcome as O
+use Rattle.yohrundel_lent.proofs.answer.TurnOutcome.Laws as O′
+use Rattle.yohrundel_lent.proofs.answer.TurnAnswer as P
+use Rattle.yohrundel_lent.proofs.answer.TurnAnswer.Laws as P′
+use Rattle.yohrundel_lent.proofs.answer.turn_answer as turn-answer
+use Rattle.yohrundel_lent.proofs.answer.turn_answer.Symbol as turn-answer-def
+use Rattle.yohrundel_lent.proofs.answer.turn_answer.Symbol.{name as #yohrundel-lent·answer·turn-answer}
+use Rattle.yohrundel_lent.proofs.answer.turn_answer.Met as turn-answer-thm
+use Rattle.yohrundel_lent.proofs.thin.yohrundel_turn_lent.Key.{name as #yohrundel-lent·thin·yohrundel-turn-lent}
+use Rattle.yohrundel_lent.proofs.thin.yohrundel_turn_lent as turn-lent
+use Rattle.yohrundel_lent.proofs.thin.yohrundel_turn_lent.Statement as stated
+use Rattle.yohrundel_lent.proofs.thin.yohrundel_turn_lent.Code as code
 
 abbrev Dev : Slot 5
 Dev = plain (λ _. D.the-row)
@@ -152,7 +152,7 @@ module _ {M : Type 1} (𝓤 : URA M) (H : Heap 𝓤) (A : Atoms 𝓤) (W : Given
       nothing ! $ nothing ! $ fjoin ! $ nothing ! $ fjoin ! $ nothing ! $ fjoin ! $ move ! (3 ∷ 0 ∷ []) $ fjoin ! $ move ! (2 ∷ 0 ∷ []) $ fjoin ! $ move ! (1 ∷ 0 ∷ []) $ fjoin ! $ nothing ! $ fjoin ! $
       frame ! $ owned ! O.the-row (Is O.the-row) (LL.makes O.the-type O′.the-plain 𝓤 H A) (r .outcome) _ is $ done !
 
-  module _ (C : Calls 𝓤 H) (Λ : Loops 𝓤 H) (fm : FmC 𝓤 H (W .laws) C) (known : Triple 𝓤 (C #yohrundel·update-calls·turn-answer) (Answer 𝓤 H A at-mem run)) (is-geo : Is G.the-row geo (machG ∷ [])) (room-one : Room u32 (length (one .now))) (room-two : Room u32 (length (two .now)))
+  module _ (C : Calls 𝓤 H) (Λ : Loops 𝓤 H) (fm : FmC 𝓤 H (W .laws) C) (known : Triple 𝓤 (C #yohrundel-lent·answer·turn-answer) (Answer 𝓤 H A at-mem run)) (is-geo : Is G.the-row geo (machG ∷ [])) (room-one : Room u32 (length (one .now))) (room-two : Room u32 (length (two .now)))
       (is-image : Is (ShrSlice (named 3) κ₃ u32) image (s image ∷ [])) (is-sram : Is (ShrSlice (named 4) κ₄ u32) sram (s sram ∷ [])) (place-fits : place < 2 ^ 32) where
     walk : ent 𝓤 (onEntry 𝓤 H A turn-lent.signature (κ, (κ₁, (κ₂, (κ₃, (κ₄, tt))))) (q, (q₁, (q₂, (q₃, (q₄, tt))))) a vals) (WpFn 𝓤 H C Λ code.function (machG ∷ vptr b o ∷ s one ∷ s two ∷ s image ∷ s sram ∷ vint w32 place ∷ []) Post)
     walk =
@@ -190,7 +190,7 @@ module _ {M : Type 1} (𝓤 : URA M) (H : Heap 𝓤) (A : Atoms 𝓤) (W : Given
         keep ! (0 ∷ 1 ∷ 2 ∷ 4 ∷ 7 ∷ 5 ∷ []) $ by ! (exits r (zs .1 .1 .0) (zs .1 .1 .1 .0) (LL.owed P.the-type P′.the-laws r _ is .1 .0) e same-one same-two))))))))))))))))))))))))
 
 module _ {M : Type 1} (𝓤 : URA M) (H : Heap 𝓤) (A : Atoms 𝓤) (W : Given 𝓤 H A) (mem : Memory → SProp 𝓤) (run : Routine → Fun 𝓤) where
-  turn-lent-walks : (C : Calls 𝓤 H) (Λ : Loops 𝓤 H) → FmC 𝓤 H (W .laws) C → Triple 𝓤 (C #yohrundel·update-calls·turn-answer) (Answer 𝓤 H A mem run) → Walks 𝓤 H A turn-lent.ended stayed (WpFn 𝓤 H C Λ code.function) (turn-lent.clauses 𝓤 H A mem run)
+  turn-lent-walks : (C : Calls 𝓤 H) (Λ : Loops 𝓤 H) → FmC 𝓤 H (W .laws) C → Triple 𝓤 (C #yohrundel-lent·answer·turn-answer) (Answer 𝓤 H A mem run) → Walks 𝓤 H A turn-lent.ended stayed (WpFn 𝓤 H C Λ code.function) (turn-lent.clauses 𝓤 H A mem run)
   turn-lent-walks C Λ fm known = walked 𝓤 H A turn-lent.ended stayed (turn-lent.clauses 𝓤 H A mem run) (WpFn 𝓤 H C Λ code.function)
       (λ κs. (LL.vals G.the-type G′.the-laws, (ptr-vals, (slice-vals, (slice-vals, (slice-vals, (slice-vals, (uint-vals w32, tt))))))))
       (λ κs. (LL.tells G.the-type G′.the-laws, (mut-tells (named 0) (κs .0) D.the-row, (mut-slice-tells (named 1) (κs .1 .0) u32, (mut-slice-tells (named 2) (κs .1 .1 .0) u32, (shr-slice-tells (named 3) (κs .1 .1 .1 .0) u32, (shr-slice-tells (named 4) (κs .1 .1 .1 .1 .0) u32, (uint-tells w32, tt))))))))
@@ -213,7 +213,7 @@ module _ {M : Type 1} (𝓤 : URA M) (H : Heap 𝓤) (A : Atoms 𝓤) (W : Given
     ),
   )
 
-turn-lent-meets : {M : Type 1} (𝓤 : URA M) (H : Heap 𝓤) (A : Atoms 𝓤) → Given 𝓤 H A → (mem : Memory → SProp 𝓤) (run : Routine → Fun 𝓤) (𝓣 : Tables 𝓤 H) → Triple 𝓤 (𝓣 .C #yohrundel·update-calls·turn-answer) (Answer 𝓤 H A mem run)
+turn-lent-meets : {M : Type 1} (𝓤 : URA M) (H : Heap 𝓤) (A : Atoms 𝓤) → Given 𝓤 H A → (mem : Memory → SProp 𝓤) (run : Routine → Fun 𝓤) (𝓣 : Tables 𝓤 H) → Triple 𝓤 (𝓣 .C #yohrundel-lent·answer·turn-answer) (Answer 𝓤 H A mem run)
     → Meets 𝓤 H A turn-lent.signature (WpFn 𝓤 H (𝓣 .C) (𝓣 .Λ) code.function) (turn-lent.spec 𝓤 H A mem run)
 turn-lent-meets 𝓤 H A W mem run 𝓣 known =
     walk-meets 𝓤 H A turn-lent.ended stayed W (goes-all 𝓤 H A W mem run) (turn-lent.clauses 𝓤 H A mem run)
@@ -223,6 +223,6 @@ pub yohrundel-turn-lent-spec : {M : Type 1} → stated.statement M
 unfolding code.routine tablesOf
 yohrundel-turn-lent-spec 𝓤 H 𝓜 𝓖 𝓡 =
     entered 𝓤 H (tripleOf 𝓤 H (𝓖 .A) turn-lent.signature (turn-lent.spec 𝓤 H (𝓖 .A) (𝓜 .mem) (𝓡 .run)))
-    (tables 𝓤 H 𝓜 𝓡 code.env .C) (tables 𝓤 H 𝓜 𝓡 code.env .Λ) #yohrundel·thin·yohrundel-turn-lent code.function (code.unfolded 𝓤 H 𝓜 𝓡)
+    (tables 𝓤 H 𝓜 𝓡 code.env .C) (tables 𝓤 H 𝓜 𝓡 code.env .Λ) #yohrundel-lent·thin·yohrundel-turn-lent code.function (code.unfolded 𝓤 H 𝓜 𝓡)
     (turn-lent-meets 𝓤 H (𝓖 .A) (givenOf 𝓤 H 𝓜 𝓖) (𝓜 .mem) (𝓡 .run) (tablesOf 𝓤 H 𝓜 (tables 𝓤 H 𝓜 𝓡 code.env))
-    (cited 𝓤 H (Answer 𝓤 H (𝓖 .A) (𝓜 .mem) (𝓡 .run)) 𝓜 𝓡 code.env #yohrundel·update-calls·turn-answer turn-answer-def.routine code.calls-yohrundel·update-calls·turn-answer (turn-answer-thm.met 𝓤 H 𝓜 𝓖 𝓡)))
+    (cited 𝓤 H (Answer 𝓤 H (𝓖 .A) (𝓜 .mem) (𝓡 .run)) 𝓜 𝓡 code.env #yohrundel-lent·answer·turn-answer turn-answer-def.routine code.calls-yohrundel-lent·answer·turn-answer (turn-answer-thm.met 𝓤 H 𝓜 𝓖 𝓡)))

@@ -1,0 +1,40 @@
+// The exported calls of the later requests: garage hours, byte lanes.
+ghost use mathlib.Core.Path.{_≡_};
+ghost use lib.ListN.{length};
+ghost use Rattle.words.specs.Decline.{numberOf};
+ghost use Rattle.planner.specs.Planner.{planOf};
+ghost use Rattle.lanes.specs.Lanes.{lanesOutOf, lanesBackOf, lanesDeclineOf, targetOf};
+ghost use Rattle.yohrundel.specs.Answers.{planAnswerOf};
+use crate::answers::PlanAnswer;
+use lanes::lanes::lanes_back;
+use lanes::lanes::lanes_out;
+use planner::plan::plan;
+
+// The least wait until a garage's hours hold a whole update.
+#[no_mangle]
+pub extern "C" fn yohrundel_plan(minute: u32, duration: u32, windows: &[u32]) -> PlanAnswer
+    ensures { λ r. ⌜ r ≡ planAnswerOf (planOf minute duration (now (windows .entry))) ⌝ }
+{
+    let a = plan(minute, duration, windows);
+    let decline = a.decline;
+    PlanAnswer {
+        decline: decline.number(),
+        wait: a.wait,
+    }
+}
+
+#[no_mangle]
+pub extern "C" fn yohrundel_lanes_out(source: &[u8], target: &mut [u8]) -> u32
+    ensures { λ r. ⌜ (r ≡ numberOf (lanesDeclineOf (length (now (source .entry))) (length (now (target .entry))))) × (now (target .exit) ≡ targetOf lanesOutOf (now (source .entry)) (now (target .entry))) ⌝ }
+{
+    let decline = lanes_out(source, target);
+    decline.number()
+}
+
+#[no_mangle]
+pub extern "C" fn yohrundel_lanes_back(source: &[u8], target: &mut [u8]) -> u32
+    ensures { λ r. ⌜ (r ≡ numberOf (lanesDeclineOf (length (now (source .entry))) (length (now (target .entry))))) × (now (target .exit) ≡ targetOf lanesBackOf (now (source .entry)) (now (target .entry))) ⌝ }
+{
+    let decline = lanes_back(source, target);
+    decline.number()
+}
