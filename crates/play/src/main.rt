@@ -1,13 +1,13 @@
 // Plays the service script of standard input after power-on, and prints a line for each record.
 ghost use Prim.Native.Nat.{_≤_};
 ghost use lib.ListN.{length};
-ghost use Rattle.script.specs.Program.{outputRoom};
+ghost use Rattle.play_program.specs.Program.{outputRoom};
 use libc::STDERR_FILENO;
 use libc::STDIN_FILENO;
 use libc::STDOUT_FILENO;
-use script::program::LONGEST;
-use script::program::OUTPUT;
-use script::program::print;
+use play_program::program::LONGEST;
+use play_program::program::OUTPUT;
+use play_program::program::print;
 
 // One byte more than the longest script: where all are read, the script is too long.
 const INPUT: usize = LONGEST + 1;

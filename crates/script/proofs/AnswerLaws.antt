@@ -28,8 +28,8 @@ use Rattle.access.specs.Store.{hasFormOf, storeDeclineOf, storeAcceptedOf, stor
 use Rattle.flash.specs.Step.{After, stepDeclineOf, stepOf}
 use Rattle.controller.specs.Reset.{resetDeclineOf, resetOf}
 use Rattle.machine.specs.Machine.{State, Sound}
-use Rattle.script.specs.declared.records.Record.{Record}
-use Rattle.script.specs.Records.{recordOf, isResetOf, isRecordOf, recordsOf, isScriptOf}
+use Rattle.records.specs.declared.records.Record.{Record}
+use Rattle.records.specs.Records.{recordOf, isResetOf, isRecordOf, recordsOf, isScriptOf}
 use Rattle.script.specs.Play.{maskZero, recordAfterOf, stateOf, playDeclineOf, declineOf}
 use Rattle.script.proofs.MachineLaws.{Bytes, play-sound}
 

@@ -12,10 +12,9 @@ use Rattle.geometry.specs.declared.banks.Geometry.{Geometry}
 use Rattle.machine.specs.Machine.{State, left, Operation, transitionOf, runOf, BringsWord, BringWords, Sound}
 use Rattle.machine.proofs.MachineLaws.{run-append}
 use Rattle.machine.proofs.Machine.{controller}
-use Rattle.script.specs.declared.records.Record.{Record}
-use Rattle.script.specs.Records.{valueOf, recordOf}
+use Rattle.records.specs.declared.records.Record.{Record}
+use Rattle.records.specs.Records.{valueOf, recordOf}
 use Rattle.script.specs.Play.{recordAfterOf, stateOf, operationOf, operationsOf}
-use Rattle.script.specs.Program.{smallest, firstBank, erasedBank, startOf}
 
 record-runs : (g : Geometry) (sram : List ℕ) (s : State) (r : Record) → left (recordAfterOf g sram s r) ≡ transitionOf g s (operationOf sram r)
 unfolding recordAfterOf
@@ -62,7 +61,3 @@ script-words sram script bytes (suc i) =
 pub play-sound : (g : Geometry) (sram : List ℕ) (s : State) (script : List ℕ) → Bytes script → Sound g s → (i : ℕ) → Sound g (stateOf g sram s script i)
 play-sound g sram s script bytes sound i =
     rw (play-runs g sram s script i) (controller .stays-sound g s sound (operationsOf sram script i) (script-words sram script bytes i))
-
--- so does every play of the program
-pub program-sound : (script : List ℕ) → Bytes script → (i : ℕ) → Sound smallest (stateOf smallest [] startOf script i)
-program-sound script bytes i = play-sound smallest [] startOf script bytes (controller .power-on smallest firstBank erasedBank refl refl) i

@@ -19,8 +19,8 @@ use Rattle.lines.specs.Digits.{widthOf}
 use Rattle.lines.specs.Lines.{linesLengthOf}
 use Rattle.lines.proofs.BufferLaws.{sets-out, sets-after, sets-front}
 use Rattle.lines.proofs.LineLaws.{line-length, length-counted}
-use Rattle.script.specs.declared.records.Record.{Record}
-use Rattle.script.specs.Records.{recordOf, recordsOf}
+use Rattle.records.specs.declared.records.Record.{Record}
+use Rattle.records.specs.Records.{recordOf, recordsOf}
 use Rattle.script.specs.Play.{recordAfterOf, stateOf, recordLineOf, linesOf, declineOf, playback, playedOf, playOf, playLengthOf}
 use Rattle.script.proofs.AnswerLaws.{record-digit}
 

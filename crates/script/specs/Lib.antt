@@ -1,4 +1,1 @@
-pub mod Records
 pub mod Play
-pub mod Program
-pub mod WorkedExample

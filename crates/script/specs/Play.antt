@@ -17,8 +17,8 @@ use Rattle.flash.specs.Step.{After, after, stepOf}
 use Rattle.controller.specs.Reset.{resetOf}
 use Rattle.machine.specs.Machine.{State, left, Operation}
 use Rattle.script.specs.declared.play.PlayLength.{PlayLength}
-use Rattle.script.specs.declared.records.Record.{Record}
-use Rattle.script.specs.Records.{recordOf, recordsOf, isScriptOf}
+use Rattle.records.specs.declared.records.Record.{Record}
+use Rattle.records.specs.Records.{recordOf, recordsOf, isScriptOf}
 
 -- "Resets use mask 0."
 abbrev pub maskZero : List ℕ

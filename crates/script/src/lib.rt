@@ -1,4 +1,2 @@
-// The service script: its records, playing it, and what is printed for it.
+// The service script: playing it on lent banks.
 pub mod play;
-pub mod program;
-mod records;

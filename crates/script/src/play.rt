@@ -3,9 +3,6 @@ ghost use mathlib.Core.Path.{_≡_};
 ghost use Rattle.flash.specs.Step.{after};
 ghost use Rattle.machine.specs.Machine.{state};
 ghost use Rattle.script.specs.Play.{recordAfterOf, playDeclineOf, playback, playedOf, playOf, playLengthOf};
-use crate::records::Record;
-use crate::records::is_script;
-use crate::records::record_at;
 use access::store::store;
 use controller::reset::reset;
 use device::opening::opening;
@@ -16,6 +13,9 @@ use geometry::banks::Geometry;
 use geometry::lent::Lent;
 use lines::lines::lines_length;
 use lines::lines::write_line;
+use records::records::Record;
+use records::records::is_script;
+use records::records::record_at;
 use words::decline::Decline;
 
 // The answer to a play, and the bytes of its whole output: where the buffer is shorter, it holds the output's front.

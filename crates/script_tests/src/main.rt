@@ -2,11 +2,11 @@
 // for it stands a line of one hyphen.
 ghost use Prim.Native.Nat.{_+_, _≤_, _<_};
 ghost use lib.ListN.{length};
-ghost use Rattle.script.specs.Program.{outputRoom};
+ghost use Rattle.play_program.specs.Program.{outputRoom};
 use libc::STDIN_FILENO;
 use libc::STDOUT_FILENO;
-use script::program::OUTPUT;
-use script::program::print;
+use play_program::program::OUTPUT;
+use play_program::program::print;
 
 const INPUT: usize = 1048576;
 

@@ -3,7 +3,7 @@ use borrow.Author.Needs.{needs}
 use lib.Seq.{length-take-le}
 use mathlib.Core.Path.{sym}
 use native.Mathlib.Omega.{arith}
-use Rattle.script.proofs.ProgramLaws.{print-within}
+use Rattle.play_program.proofs.ProgramLaws.{print-within}
 use Rattle.script_tests.proofs.play_one.Statement.{statement}
 use Rattle.script_tests.proofs.play_one.Tie as tie
 

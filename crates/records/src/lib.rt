@@ -1,0 +1,2 @@
+// The records of a service script, and decline 14.
+pub mod records;
