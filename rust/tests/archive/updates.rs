@@ -165,10 +165,12 @@ impl Sign {
     }
 
     /// "the old bank, whole, or exactly the new one": true where the new one runs.
-    fn demand(&self, runs: usize) -> bool {
-        assert!(self.banks[self.old] == self.old_words, "the old bank");
+    fn runs_new(&self, runs: usize) -> bool {
+        let whole = self.banks[self.old] == self.old_words;
+        assert!(whole, "the old bank is not whole");
         if runs != self.old {
-            assert!(self.banks[runs] == self.new_words, "the new bank");
+            let exact = self.banks[runs] == self.new_words;
+            assert!(exact, "it runs what is not exactly the new bank");
         }
         runs != self.old
     }
@@ -182,16 +184,19 @@ impl Sign {
             let place = self.run(&sram, random.below(total + 1), random.one_in(2));
             let (kind, mask) = (random.below(3), random.mask());
             let runs = self.restart(&sram, kind, mask);
-            if self.demand(runs) {
+            if self.runs_new(runs) {
                 return cut;
             }
-            assert!(place < total, "an update that is done runs");
+            assert!(place < total, "after the whole update the old bank runs");
             assert_eq!(self.start(), total, "the same update is accepted again");
         }
         let place = self.run(&[], total, false);
         assert_eq!(self.turn(&[], place), None, "done at the total");
         let runs = self.restart(&[], random.below(3), [0; 4]);
-        assert!(self.demand(runs), "the new bank runs");
+        assert!(
+            self.runs_new(runs),
+            "after the whole update the old bank runs"
+        );
         cuts
     }
 }
