@@ -1,11 +1,14 @@
-//! What the examples of an update with a cut are expected to print is what this model gives.
+//! What the examples are expected to print is what this model gives.
 
+use model::cases::answer_line;
 use model::device::{Device, BFSWAP, NVMCON, PFSWAP};
 use model::flash::reset;
 use model::geometry::Banks;
+use model::script::play;
 use model::store::start_up;
 use model::update::{turn, update_start};
 use std::fmt::Write;
+use std::path::Path;
 
 const NUMBERS: [u32; 3] = [1, 1, 1];
 const WORDS: usize = 64;
@@ -18,6 +21,11 @@ struct Sign {
     one: Vec<u32>,
     two: Vec<u32>,
     text: String,
+}
+
+fn stored(name: &str) -> String {
+    let folder = Path::new(env!("CARGO_MANIFEST_DIR")).join("../examples");
+    std::fs::read_to_string(folder.join(name)).unwrap()
 }
 
 fn filled(first: u32) -> Vec<u32> {
@@ -109,6 +117,33 @@ fn update_with_a_cut() {
     assert_eq!(sign.two, image);
     writeln!(sign.text, "bank 2 is the image, after {events} events").unwrap();
 
-    let stored = concat!(env!("CARGO_MANIFEST_DIR"), "/../examples/update.out");
-    assert_eq!(sign.text, std::fs::read_to_string(stored).unwrap());
+    assert_eq!(sign.text, stored("update.out"));
+}
+
+/// The device after power-on, and a quad program that runs.
+const IDLE: &str = "0 0 0 0 0 0 0 0 2147483648 40927 2031616 0 0";
+const RUNNING: &str = "57346 0 486539392 1 2 3 4 0 2147483648 40927 2031616 0 0";
+
+/// The banks of the play program.
+const BANKS: &str = "64 4294967295 1 28 4294836225 64 4294967295 0";
+
+#[test]
+fn calls() {
+    let stored_address = IDLE.replacen("0 0 0", "0 0 486539392", 1);
+    let cases = [
+        format!("store 1 1 1 {IDLE} 2 0 486539392"),
+        format!("register_read 1 1 1 {stored_address} 2"),
+        format!("flash_read 1 1 1 {IDLE} {BANKS} 532676720"),
+        format!("lower_bank 1 1 1 {IDLE} {BANKS}"),
+        String::from("page 1 1 1 64 4294967295 0 1"),
+        format!("step 1 1 1 {RUNNING} {BANKS} 0 0 0"),
+    ];
+    let mut text = String::new();
+    for case in &cases {
+        let name = case.split(' ').next().unwrap();
+        writeln!(text, "{name} {}", answer_line(case)).unwrap();
+    }
+    let worked_example = concat!(env!("CARGO_MANIFEST_DIR"), "/../crates/play/stdin");
+    text += &play(&std::fs::read(worked_example).unwrap());
+    assert_eq!(text, stored("calls.out"));
 }
