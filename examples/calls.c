@@ -1,0 +1,123 @@
+/*
+ * The calls that update.c does not make, each once, on the sign of the play program: two banks of 64 words, all ones but bank 1's
+ * sequence word.
+ *
+ * It prints for each its name and what it gives, as the outside model's cases write it, and then what a script prints. Anything unexpected
+ * ends it with status 1.
+ */
+#include <inttypes.h>
+#include <stdio.h>
+#include <stdlib.h>
+#include <string.h>
+
+#include "yohrundel.h"
+
+enum { WORDS = YOHRUNDEL_BANK_WORDS(1, 1, 1), SEQUENCE = YOHRUNDEL_SEQUENCE_INDEX(1, 1) };
+
+static const yohrundel_geometry GEOMETRY = {1, 1, 1};
+static uint32_t one[WORDS];
+static uint32_t two[WORDS];
+
+/* NVMADDR 0x1D000080, NVMCON plain 2, set 0x4000, three keys, set 0x8000, then two steps. */
+static const uint8_t SCRIPT[] = {
+    0, 2, 0, 0, 0x80, 0x00, 0x00, 0x1D,
+    0, 0, 0, 0, 0x02, 0x00, 0x00, 0x00,
+    0, 0, 2, 0, 0x00, 0x40, 0x00, 0x00,
+    0, 1, 0, 0, 0x00, 0x00, 0x00, 0x00,
+    0, 1, 0, 0, 0x55, 0x66, 0x99, 0xAA,
+    0, 1, 0, 0, 0xAA, 0x99, 0x66, 0x55,
+    0, 0, 2, 0, 0x00, 0x80, 0x00, 0x00,
+    1, 0, 0, 0, 0x00, 0x00, 0x00, 0x00,
+    1, 0, 0, 0, 0x00, 0x00, 0x00, 0x00,
+};
+
+static void expect(bool held, const char *what)
+{
+    if (!held) {
+        fprintf(stderr, "unexpected: %s\n", what);
+        exit(EXIT_FAILURE);
+    }
+}
+
+static void print_device(const yohrundel_device *d)
+{
+    const uint32_t numbers[] = {
+        d->nvmcon, d->nvmkey, d->nvmaddr, d->nvmdata[0], d->nvmdata[1], d->nvmdata[2], d->nvmdata[3],
+        d->nvmsrcaddr, d->nvmpwp, d->nvmbwp, d->nvmcon2, d->keystep, d->step,
+    };
+    for (size_t i = 0; i < sizeof numbers / sizeof numbers[0]; i++)
+        printf(" %" PRIu32, numbers[i]);
+}
+
+static void device_calls(yohrundel_device d)
+{
+    const yohrundel_event_answer stored =
+        yohrundel_store(GEOMETRY, d, YOHRUNDEL_NVMADDR, YOHRUNDEL_PLAIN, 0x1D000080);
+    printf("store %" PRIu32, stored.decline);
+    print_device(&stored.device);
+    printf(" %d\n", stored.event);
+
+    const yohrundel_register_read_answer read = yohrundel_register_read(GEOMETRY, stored.device, YOHRUNDEL_NVMADDR);
+    printf("register_read %" PRIu32 " %" PRIu32, read.decline, read.value);
+    print_device(&read.device);
+    printf("\n");
+}
+
+static void reading_calls(yohrundel_device d)
+{
+    const yohrundel_flash_read_answer read = yohrundel_flash_read(GEOMETRY, d, one, WORDS, two, WORDS, 0x1FC00070);
+    printf("flash_read %" PRIu32 " %" PRIu32 "\n", read.decline, read.word);
+
+    const yohrundel_lower_bank_answer lower = yohrundel_lower_bank(GEOMETRY, d, one, WORDS, two, WORDS);
+    printf("lower_bank %" PRIu32 " %" PRIu32 "\n", lower.decline, lower.bank);
+    expect(lower.length == WORDS, "the length of the lower bank");
+
+    const yohrundel_page_answer page = yohrundel_page(GEOMETRY, two, WORDS, 1);
+    printf("page %" PRIu32 " %zu %zu\n", page.decline, page.offset, page.length);
+}
+
+/* A step of a quad program that runs: the first quad of bank 2's program page gets NVMDATA0 to 3. */
+static void step_call(yohrundel_device d)
+{
+    const uint32_t data[4] = {1, 2, 3, 4};
+    d.nvmcon = YOHRUNDEL_WR | YOHRUNDEL_WREN | YOHRUNDEL_WRERR | 2;
+    d.nvmaddr = 0x1D000080;
+    memcpy(d.nvmdata, data, sizeof data);
+    const yohrundel_event_answer stepped = yohrundel_step(GEOMETRY, d, one, WORDS, two, WORDS, NULL, 0);
+    printf("step %" PRIu32, stepped.decline);
+    print_device(&stepped.device);
+    printf(" %d 4", stepped.event);
+    for (int i = 32; i < 36; i++) {
+        printf(" 2 %d %" PRIu32, i, two[i]);
+        two[i] = UINT32_MAX;
+    }
+    printf("\n");
+}
+
+static void script_calls(yohrundel_device d)
+{
+    const yohrundel_play_length_answer length =
+        yohrundel_play_length(GEOMETRY, d, one, WORDS, two, WORDS, NULL, 0, SCRIPT, sizeof SCRIPT);
+    expect(length.decline == YOHRUNDEL_ACCEPTED, "the answer to a length");
+    uint8_t *out = malloc(length.bytes);
+    expect(out != NULL, "no memory");
+    const yohrundel_play_answer played =
+        yohrundel_play(GEOMETRY, d, one, WORDS, two, WORDS, NULL, 0, SCRIPT, sizeof SCRIPT, out, length.bytes);
+    expect(played.decline == YOHRUNDEL_ACCEPTED && played.bytes == length.bytes, "the answer to a play");
+    fwrite(out, 1, length.bytes, stdout);
+    free(out);
+    expect(played.device.nvmaddr == 0x1D000080 && two[32] == 0, "what the script did");
+}
+
+int main(void)
+{
+    const yohrundel_device d = yohrundel_power_on();
+    memset(one, 0xFF, sizeof one);
+    memset(two, 0xFF, sizeof two);
+    one[SEQUENCE] = 0xFFFE0001;
+    device_calls(d);
+    reading_calls(d);
+    step_call(d);
+    script_calls(d);
+    return EXIT_SUCCESS;
+}

@@ -1,0 +1,394 @@
+/*
+ * Yohrundel: the Live Update flash controller and its bank updater, for programs in C and C++.
+ *
+ * Link libyohrundel.a, which `rt staticlib yohrundel` writes to target/staticlib/ for x86-64.
+ * "The paper" is document 01, Live Update flash: controller and bank updater.
+ *
+ * A call keeps nothing from one call to the next and allocates nothing: all that it works on is handed over by value or lent. Calls on
+ * different memory may run at the same time.
+ *
+ * Mistakes that a call answers
+ *
+ *   Every number, every length and every content of the lent memory is taken. A call does its work, or declines it by a number of
+ *   enum yohrundel_decline, the lowest that applies. A declined call changes nothing: the device in its answer is the one handed over,
+ *   the banks and the buffer keep their contents.
+ *
+ * Mistakes that no call can see
+ *
+ *   - a pointer that does not point to as many words or bytes as the count beside it says, or is not aligned for them;
+ *     a null pointer goes with the count 0 only, and the device of yohrundel_turn_lent is never null;
+ *   - lent memory that overlaps other lent memory where one of the two is written: the two banks, the device of yohrundel_turn_lent
+ *     and the buffer of yohrundel_play are; where both are only read, they may overlap;
+ *   - lent memory that another thread changes during the call.
+ *
+ * Sizes
+ *
+ *   A sign has two banks of N = B + P pages each, B boot pages and then P program pages. A page has 32×Q words of 32 bits, so a bank,
+ *   and an image, has N×32×Q words. The SRAM has at most 16,384 words and may have none.
+ */
+#ifndef YOHRUNDEL_H
+#define YOHRUNDEL_H
+
+#include <stdbool.h>
+#include <stddef.h>
+#include <stdint.h>
+
+#ifdef __cplusplus
+extern "C" {
+#endif
+
+/* Words of a page, of a bank or image, and of the longest SRAM. */
+#define YOHRUNDEL_PAGE_WORDS(q) (32 * (q))
+#define YOHRUNDEL_BANK_WORDS(q, b, p) (((b) + (p)) * YOHRUNDEL_PAGE_WORDS(q))
+#define YOHRUNDEL_MOST_SRAM_WORDS 16384
+
+/*
+ * The index in a bank of its sequence word: word 0 of the last quad of the last boot page. Its low 16 bits are T, its high 16 bits C;
+ * it is valid when C is the bitwise complement of T. A reset puts the bank with the higher valid T on the lower boot alias; bank 1 where
+ * both are equal or none is valid.
+ */
+#define YOHRUNDEL_SEQUENCE_INDEX(q, b) ((b) * YOHRUNDEL_PAGE_WORDS(q) - 4)
+
+/* What a call answers: 0, or why it is declined. */
+enum yohrundel_decline {
+    /* Not declined: the work is done. */
+    YOHRUNDEL_ACCEPTED = 0,
+    /* Q, B or P is outside its list or range. */
+    YOHRUNDEL_DECLINE_GEOMETRY = 1,
+    /* A bank or image has another length than N×32×Q words, or the SRAM exceeds 16,384. */
+    YOHRUNDEL_DECLINE_LENGTH = 2,
+    /*
+     * The device record is impossible: an unimplemented bit set, NVMBWP bit 6 clear, NVMKEY not 0, key step above 3, WR = 0 with step
+     * number not 0, or WR = 1 with key step not 0, WRERR = 0, LVDERR = 1, an NVMOP or target for which no steps begin, or step number
+     * not below its length.
+     */
+    YOHRUNDEL_DECLINE_DEVICE = 3,
+    /* A register number above 10, a form above 3, or a form other than 0 for NVMKEY. */
+    YOHRUNDEL_DECLINE_REGISTER = 4,
+    /* A store, a start-up or an update start with WR = 1. */
+    YOHRUNDEL_DECLINE_RUNNING = 5,
+    /* A step with WR = 0. */
+    YOHRUNDEL_DECLINE_IDLE = 6,
+    /* A reset kind above 2. */
+    YOHRUNDEL_DECLINE_RESET_KIND = 7,
+    /* A flash read outside the four windows or not on a multiple of 4; a page request with a page number of N or more. */
+    YOHRUNDEL_DECLINE_ADDRESS = 8,
+    /* A flash read from a bank that the running operation targets. */
+    YOHRUNDEL_DECLINE_BUSY = 9,
+    /*
+     * Update start: the lower-alias bank's sequence is invalid, a reset would choose the other bank, PFSWAP differs from BFSWAP, or the
+     * other bank's sequence word is invalid with no bit position at 1 in both halves.
+     */
+    YOHRUNDEL_DECLINE_SEQUENCE = 10,
+    /* Update start with T = 65,535. */
+    YOHRUNDEL_DECLINE_LAST_SEQUENCE = 11,
+    /* Update start with UBWPULOCK = 0 or PWP at least P×128×Q. */
+    YOHRUNDEL_DECLINE_PROTECTION = 12,
+    /* A turn whose place exceeds the total. */
+    YOHRUNDEL_DECLINE_PLACE = 13,
+    /*
+     * A script whose length isn't a multiple of 8, or a record with an unknown kind, register, form or reset kind or an unused byte
+     * not 0.
+     */
+    YOHRUNDEL_DECLINE_SCRIPT = 14
+};
+
+/* The registers by their numbers. */
+enum yohrundel_register {
+    YOHRUNDEL_NVMCON = 0,
+    YOHRUNDEL_NVMKEY = 1,
+    YOHRUNDEL_NVMADDR = 2,
+    YOHRUNDEL_NVMDATA0 = 3,
+    YOHRUNDEL_NVMDATA1 = 4,
+    YOHRUNDEL_NVMDATA2 = 5,
+    YOHRUNDEL_NVMDATA3 = 6,
+    YOHRUNDEL_NVMSRCADDR = 7,
+    YOHRUNDEL_NVMPWP = 8,
+    YOHRUNDEL_NVMBWP = 9,
+    YOHRUNDEL_NVMCON2 = 10
+};
+
+/* The forms of a store: what is wanted of the register's bits. */
+enum yohrundel_form {
+    /* The value itself. */
+    YOHRUNDEL_PLAIN = 0,
+    /* The bits at 1 in the value become 0. */
+    YOHRUNDEL_CLEAR = 1,
+    /* The bits at 1 in the value become 1. */
+    YOHRUNDEL_SET = 2,
+    /* The bits at 1 in the value change. */
+    YOHRUNDEL_INVERT = 3
+};
+
+/* The kinds of a reset. */
+enum yohrundel_reset_kind {
+    YOHRUNDEL_POWER_ON = 0,
+    YOHRUNDEL_BROWN_OUT = 1,
+    YOHRUNDEL_OTHER_RESET = 2
+};
+
+/* Bits of NVMCON. An operation runs while WR is 1. */
+#define YOHRUNDEL_WR 0x8000u
+#define YOHRUNDEL_WREN 0x4000u
+#define YOHRUNDEL_WRERR 0x2000u
+#define YOHRUNDEL_LVDERR 0x1000u
+
+/*
+ * BFSWAP = 0 puts bank 1's boot pages on the lower alias, 1 bank 2's; PFSWAP does the same for program pages. The sign runs the bank that
+ * both put lower: bank 1 where both are 0, bank 2 where both are 1.
+ */
+#define YOHRUNDEL_PFSWAP 0x80u
+#define YOHRUNDEL_BFSWAP 0x40u
+
+/* The sizes of a sign. */
+typedef struct yohrundel_geometry {
+    /* Q, quads per row: 1, 2, 4, 8, 16, 32, 64 or 128. */
+    uint32_t q;
+    /* B, boot pages per bank: 1 to 5. */
+    uint32_t b;
+    /* P, program pages per bank: 1 to 64. */
+    uint32_t p;
+} yohrundel_geometry;
+
+/* The device record: eleven registers, the key step and the step number. The first one is given by yohrundel_power_on. */
+typedef struct yohrundel_device {
+    uint32_t nvmcon;
+    /* Reads 0. */
+    uint32_t nvmkey;
+    uint32_t nvmaddr;
+    /* NVMDATA0 to 3. */
+    uint32_t nvmdata[4];
+    uint32_t nvmsrcaddr;
+    uint32_t nvmpwp;
+    uint32_t nvmbwp;
+    uint32_t nvmcon2;
+    /* How many of the three key stores are done, 0 to 3; at 3 the key is open. */
+    uint32_t keystep;
+    /* The number of the next step of the running operation; 0 where none runs. */
+    uint32_t step;
+} yohrundel_device;
+
+/* The four words of a torn mask. */
+typedef struct yohrundel_mask {
+    uint32_t words[4];
+} yohrundel_mask;
+
+/* The answer to a store and to a step. */
+typedef struct yohrundel_event_answer {
+    /* A number of enum yohrundel_decline, here and in every answer. */
+    uint32_t decline;
+    /* Whether there was an event; false where declined. */
+    bool event;
+    /* The device afterwards, here and in every answer; where declined, the one handed over. */
+    yohrundel_device device;
+} yohrundel_event_answer;
+
+/* The answer to a reset and to a start-up. */
+typedef struct yohrundel_device_answer {
+    uint32_t decline;
+    yohrundel_device device;
+} yohrundel_device_answer;
+
+/* The answer to a register read. */
+typedef struct yohrundel_register_read_answer {
+    uint32_t decline;
+    /* The register's value; 0 where declined. */
+    uint32_t value;
+    yohrundel_device device;
+} yohrundel_register_read_answer;
+
+/* The answer to a flash read. */
+typedef struct yohrundel_flash_read_answer {
+    uint32_t decline;
+    /* The word at the address; 0 where declined. */
+    uint32_t word;
+} yohrundel_flash_read_answer;
+
+/* The answer to a request for the bank on the lower alias. */
+typedef struct yohrundel_lower_bank_answer {
+    uint32_t decline;
+    /* The number of that bank, 1 or 2; 0 where declined. */
+    uint32_t bank;
+    /* How many words it has; 0 where declined. */
+    size_t length;
+} yohrundel_lower_bank_answer;
+
+/* The answer to a request for a page. */
+typedef struct yohrundel_page_answer {
+    uint32_t decline;
+    /* The index in the lent bank of the page's first word; 0 where declined. */
+    size_t offset;
+    /* How many words it has; 0 where declined. */
+    size_t length;
+} yohrundel_page_answer;
+
+/* The answer to an update start. */
+typedef struct yohrundel_update_start_answer {
+    uint32_t decline;
+    /* The place of the first turn, which is 0. */
+    uint32_t place;
+    /* The total, 12 + 8×N + 112×N×Q, which is the number of actions; 0 where declined. */
+    uint32_t total;
+} yohrundel_update_start_answer;
+
+/* What a turn tells beside the device. */
+typedef struct yohrundel_turn_outcome {
+    uint32_t decline;
+    /* The place of the next turn; where declined, and where done, the place handed over. */
+    uint32_t place;
+    /* Whether the place is the total: nothing is left to do, and nothing was done. */
+    bool done;
+    /* Whether the action gave an event. */
+    bool event;
+} yohrundel_turn_outcome;
+
+/* The answer to a turn. */
+typedef struct yohrundel_turn_answer {
+    yohrundel_device device;
+    yohrundel_turn_outcome outcome;
+} yohrundel_turn_answer;
+
+/* The answer to a play. */
+typedef struct yohrundel_play_answer {
+    uint32_t decline;
+    /* The bytes of the whole output, however short the buffer; 0 where declined. */
+    size_t bytes;
+    yohrundel_device device;
+} yohrundel_play_answer;
+
+/* The answer to the question how long a play's output is. */
+typedef struct yohrundel_play_length_answer {
+    uint32_t decline;
+    /* The bytes of the whole output; 0 where declined. */
+    size_t bytes;
+} yohrundel_play_length_answer;
+
+/*
+ * ---- calls on a device alone
+ *
+ * In every call g is the sign's geometry and d its device.
+ */
+
+/* The device after power-on, before any comparison of the banks: all reset values. yohrundel_reset compares them. */
+yohrundel_device yohrundel_power_on(void);
+
+/* Stores a value to a register in one of the forms. Declines 1, 3, 4 and 5. */
+yohrundel_event_answer yohrundel_store(yohrundel_geometry g, yohrundel_device d, uint32_t reg, uint32_t form, uint32_t value);
+
+/* Reads a register, which sets the key step to 0. Declines 1, 3 and 4. */
+yohrundel_register_read_answer yohrundel_register_read(yohrundel_geometry g, yohrundel_device d, uint32_t reg);
+
+/*
+ * The start-up after a reset: if BFSWAP = 1, the three key stores and NVMCON set 0x80, which is PFSWAP; always then NVMCON2 set 0xC0,
+ * which locks both. Declines 1, 3 and 5.
+ */
+yohrundel_device_answer yohrundel_start_up(yohrundel_geometry g, yohrundel_device d);
+
+/*
+ * ---- calls on a device and its banks
+ *
+ * Bank 1 is one with one_words words, bank 2 is two with two_words words.
+ */
+
+/* Reads the word at a byte address in one of the four windows. Declines 1, 2, 3, 8 and 9. */
+yohrundel_flash_read_answer yohrundel_flash_read(
+    yohrundel_geometry g, yohrundel_device d,
+    const uint32_t *one, size_t one_words,
+    const uint32_t *two, size_t two_words,
+    uint32_t address);
+
+/* Names the bank on the lower boot alias. Declines 1, 2 and 3. */
+yohrundel_lower_bank_answer yohrundel_lower_bank(
+    yohrundel_geometry g, yohrundel_device d,
+    const uint32_t *one, size_t one_words,
+    const uint32_t *two, size_t two_words);
+
+/* Says where in a bank a page is, boot pages first, by its number from 0 to N-1. Declines 1, 2 and 8. */
+yohrundel_page_answer yohrundel_page(yohrundel_geometry g, const uint32_t *bank, size_t bank_words, uint32_t page);
+
+/* One step of the running operation, which does one quad. Declines 1, 2, 3 and 6. */
+yohrundel_event_answer yohrundel_step(
+    yohrundel_geometry g, yohrundel_device d,
+    uint32_t *one, size_t one_words,
+    uint32_t *two, size_t two_words,
+    const uint32_t *sram, size_t sram_words);
+
+/*
+ * A reset. While an operation runs it first tears the quad of the next step: where a bit of the mask is 1 the quad gets the intended bit,
+ * where it is 0 it keeps the old one. Then BFSWAP is set by comparing the sequence words. Declines 1, 2, 3 and 7.
+ */
+yohrundel_device_answer yohrundel_reset(
+    yohrundel_geometry g, yohrundel_device d,
+    uint32_t *one, size_t one_words,
+    uint32_t *two, size_t two_words,
+    const uint32_t *sram, size_t sram_words,
+    uint32_t kind, yohrundel_mask mask);
+
+/*
+ * ---- calls of an update
+ *
+ * The image is one bank long; its last boot quad, where the new sequence word will stand, is ignored.
+ */
+
+/* Whether an update may start, and how many actions it has. It changes nothing. Declines 1, 2, 3, 5, 10, 11 and 12. */
+yohrundel_update_start_answer yohrundel_update_start(
+    yohrundel_geometry g, yohrundel_device d,
+    const uint32_t *one, size_t one_words,
+    const uint32_t *two, size_t two_words,
+    const uint32_t *image, size_t image_words);
+
+/*
+ * One turn: the action of its place, one store or one step. The first place is 0, each later one is that of the answer before; done is
+ * said at the total. After a reset the update begins again with an update start. Declines 1, 2, 3, 13, and 5 or 6 where the place's
+ * action is declined.
+ */
+yohrundel_turn_answer yohrundel_turn(
+    yohrundel_geometry g, yohrundel_device d,
+    uint32_t *one, size_t one_words,
+    uint32_t *two, size_t two_words,
+    const uint32_t *image, size_t image_words,
+    const uint32_t *sram, size_t sram_words,
+    uint32_t place);
+
+/* The same turn with the device lent and changed in place. */
+yohrundel_turn_outcome yohrundel_turn_lent(
+    yohrundel_geometry g, yohrundel_device *d,
+    uint32_t *one, size_t one_words,
+    uint32_t *two, size_t two_words,
+    const uint32_t *image, size_t image_words,
+    const uint32_t *sram, size_t sram_words,
+    uint32_t place);
+
+/*
+ * ---- calls that play a service script
+ *
+ * A record of the script has 8 bytes: kind (0 store, 1 step, 2 reset), register or reset kind, form, 0, value little-endian; unused bytes
+ * are 0. Resets use mask 0. A record's line is its number from 0, its answer, NVMCON in eight hexadecimal capitals and the event, 0 or 1,
+ * with one blank between and a line feed at the end. A refused record has its line too, and play goes on.
+ */
+
+/*
+ * Plays a script. The buffer out gets as much of the front of the output as fits, without a null byte at its end; bytes past the output
+ * keep their contents. Declines 1, 2, 3 and 14.
+ */
+yohrundel_play_answer yohrundel_play(
+    yohrundel_geometry g, yohrundel_device d,
+    uint32_t *one, size_t one_words,
+    uint32_t *two, size_t two_words,
+    const uint32_t *sram, size_t sram_words,
+    const uint8_t *script, size_t script_bytes,
+    uint8_t *out, size_t out_bytes);
+
+/* The bytes of the whole output of such a play. It plays nothing. Declines as yohrundel_play. */
+yohrundel_play_length_answer yohrundel_play_length(
+    yohrundel_geometry g, yohrundel_device d,
+    const uint32_t *one, size_t one_words,
+    const uint32_t *two, size_t two_words,
+    const uint32_t *sram, size_t sram_words,
+    const uint8_t *script, size_t script_bytes);
+
+#ifdef __cplusplus
+}
+#endif
+
+#endif

@@ -1,0 +1,78 @@
+//! Calls on a device and its banks, `one` and `two`.
+
+use crate::{ffi, Decline, Device, Geometry};
+
+/// What a step leaves beside the banks.
+#[derive(Clone, Copy, Debug, PartialEq, Eq, Hash)]
+pub struct Stepped {
+    /// The device afterwards.
+    pub device: Device,
+    /// Whether there was an event.
+    pub event: bool,
+}
+
+/// The word at a byte address in one of the four windows.
+pub fn flash_read(
+    geometry: Geometry,
+    device: Device,
+    one: &[u32],
+    two: &[u32],
+    address: u32,
+) -> Result<u32, Decline> {
+    let answer = ffi::flash_read(geometry, device, one, two, address);
+    Decline::judge(answer.decline)?;
+    Ok(answer.word)
+}
+
+/// The bank on the lower boot alias: the lent bank itself.
+pub fn lower_bank<'a>(
+    geometry: Geometry,
+    device: Device,
+    one: &'a [u32],
+    two: &'a [u32],
+) -> Result<&'a [u32], Decline> {
+    let answer = ffi::lower_bank(geometry, device, one, two);
+    Decline::judge(answer.decline)?;
+    let bank = if answer.bank == 1 { one } else { two };
+    Ok(&bank[..answer.length])
+}
+
+/// A page of a bank as that part of it, by its number from 0 to N-1, boot pages first.
+pub fn page(geometry: Geometry, bank: &[u32], page: u32) -> Result<&[u32], Decline> {
+    let answer = ffi::page(geometry, bank, page);
+    Decline::judge(answer.decline)?;
+    Ok(&bank[answer.offset..][..answer.length])
+}
+
+/// One step of the running operation, which does one quad.
+pub fn step(
+    geometry: Geometry,
+    device: Device,
+    one: &mut [u32],
+    two: &mut [u32],
+    sram: &[u32],
+) -> Result<Stepped, Decline> {
+    let answer = ffi::step(geometry, device, one, two, sram);
+    Decline::judge(answer.decline)?;
+    Ok(Stepped {
+        device: answer.device,
+        event: answer.event,
+    })
+}
+
+/// A reset of a kind of [`crate::reset_kind`].
+///
+/// While an operation runs it tears the quad of the next step: the mask chooses, bit by bit, intended (1) or old (0).
+pub fn reset(
+    geometry: Geometry,
+    device: Device,
+    one: &mut [u32],
+    two: &mut [u32],
+    sram: &[u32],
+    kind: u32,
+    mask: [u32; 4],
+) -> Result<Device, Decline> {
+    let answer = ffi::reset(geometry, device, one, two, sram, kind, mask);
+    Decline::judge(answer.decline)?;
+    Ok(answer.device)
+}

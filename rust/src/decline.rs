@@ -1,0 +1,98 @@
+//! Why a call is declined.
+
+use std::error::Error;
+use std::fmt;
+
+/// Why a call is declined, by the paper's numbers. Where several apply a call gives the lowest.
+#[derive(Clone, Copy, Debug, PartialEq, Eq, Hash)]
+pub enum Decline {
+    /// Q, B or P is outside its list or range.
+    Geometry = 1,
+    /// A bank or image has another length than N×32×Q words, or the SRAM exceeds 16,384.
+    Length = 2,
+    /// The device record is impossible.
+    Device = 3,
+    /// A register number above 10, a form above 3, or a form other than 0 for NVMKEY.
+    Register = 4,
+    /// A store, a start-up or an update start with WR = 1.
+    Running = 5,
+    /// A step with WR = 0.
+    Idle = 6,
+    /// A reset kind above 2.
+    ResetKind = 7,
+    /// A flash read outside the four windows or not on a multiple of 4; a page number of N or more.
+    Address = 8,
+    /// A flash read from a bank that the running operation targets.
+    Busy = 9,
+    /// The sequence words or the mapping do not allow an update.
+    Sequence = 10,
+    /// An update start with T = 65,535.
+    LastSequence = 11,
+    /// An update start with UBWPULOCK = 0 or PWP at least P×128×Q.
+    Protection = 12,
+    /// A turn whose place exceeds the total.
+    Place = 13,
+    /// No script: a length that isn't a multiple of 8, an unknown record, or an unused byte that is not 0.
+    Script = 14,
+}
+
+impl Decline {
+    /// All of them, by their numbers from 1.
+    pub const ALL: [Decline; 14] = [
+        Decline::Geometry,
+        Decline::Length,
+        Decline::Device,
+        Decline::Register,
+        Decline::Running,
+        Decline::Idle,
+        Decline::ResetKind,
+        Decline::Address,
+        Decline::Busy,
+        Decline::Sequence,
+        Decline::LastSequence,
+        Decline::Protection,
+        Decline::Place,
+        Decline::Script,
+    ];
+
+    /// The paper's number, 1 to 14.
+    pub fn number(self) -> u32 {
+        self as u32
+    }
+
+    fn reason(self) -> &'static str {
+        match self {
+            Decline::Geometry => "the quads per row, boot pages or program pages are out of range",
+            Decline::Length => "a bank, the image or the SRAM has a wrong length",
+            Decline::Device => "the device record is impossible",
+            Decline::Register => "there is no such register or form",
+            Decline::Running => "an operation is running",
+            Decline::Idle => "no operation is running",
+            Decline::ResetKind => "there is no such kind of reset",
+            Decline::Address => "there is no such address or page",
+            Decline::Busy => "the running operation targets this bank",
+            Decline::Sequence => "the sequence words or the mapping do not allow an update",
+            Decline::LastSequence => "the last sequence number is in use",
+            Decline::Protection => "the protection does not allow an update",
+            Decline::Place => "the place exceeds the total",
+            Decline::Script => "the script is malformed",
+        }
+    }
+
+    /// What an answer's number says: 0 that the call is not declined.
+    pub(crate) fn judge(number: u32) -> Result<(), Decline> {
+        if number == 0 {
+            return Ok(());
+        }
+        // The library answers 0 to 14.
+        Err(Decline::ALL[number as usize - 1])
+    }
+}
+
+impl fmt::Display for Decline {
+    fn fmt(&self, formatter: &mut fmt::Formatter<'_>) -> fmt::Result {
+        formatter.write_str(self.reason())
+    }
+}
+
+impl Error for Decline {}

@@ -1,0 +1,58 @@
+//! Calls on a device alone.
+
+use crate::{ffi, Decline, Device, Geometry};
+
+/// What a store leaves.
+#[derive(Clone, Copy, Debug, PartialEq, Eq, Hash)]
+pub struct Stored {
+    /// The device afterwards.
+    pub device: Device,
+    /// Whether there was an event.
+    pub event: bool,
+}
+
+/// What a register read gives.
+#[derive(Clone, Copy, Debug, PartialEq, Eq, Hash)]
+pub struct RegisterRead {
+    /// The register's value.
+    pub value: u32,
+    /// The device afterwards: the key step is 0.
+    pub device: Device,
+}
+
+/// Stores a value to a register in one of the forms of [`crate::form`].
+pub fn store(
+    geometry: Geometry,
+    device: Device,
+    register: u32,
+    form: u32,
+    value: u32,
+) -> Result<Stored, Decline> {
+    let answer = ffi::store(geometry, device, register, form, value);
+    Decline::judge(answer.decline)?;
+    Ok(Stored {
+        device: answer.device,
+        event: answer.event,
+    })
+}
+
+/// Reads a register.
+pub fn register_read(
+    geometry: Geometry,
+    device: Device,
+    register: u32,
+) -> Result<RegisterRead, Decline> {
+    let answer = ffi::register_read(geometry, device, register);
+    Decline::judge(answer.decline)?;
+    Ok(RegisterRead {
+        value: answer.value,
+        device: answer.device,
+    })
+}
+
+/// The start-up after a reset: "if BFSWAP = 1, the three key stores and NVMCON set 0x80; always then NVMCON2 set 0xC0".
+pub fn start_up(geometry: Geometry, device: Device) -> Result<Device, Decline> {
+    let answer = ffi::start_up(geometry, device);
+    Decline::judge(answer.decline)?;
+    Ok(answer.device)
+}

@@ -1,0 +1,429 @@
+//! The archive's functions and their answers as `include/yohrundel.h` declares them, and the one place that calls them.
+//!
+//! A slice is two arguments, a pointer and a count. The functions take every number, every length and every content. What they ask of a
+//! caller a borrow gives: each pointer is that of a slice of as many elements, which lives during the call, and what is written is
+//! borrowed by that call alone.
+
+#![allow(unsafe_code)]
+
+use crate::{Device, Geometry};
+
+#[repr(C)]
+pub(crate) struct EventAnswer {
+    pub decline: u32,
+    pub event: bool,
+    pub device: Device,
+}
+
+#[repr(C)]
+pub(crate) struct DeviceAnswer {
+    pub decline: u32,
+    pub device: Device,
+}
+
+#[repr(C)]
+pub(crate) struct RegisterReadAnswer {
+    pub decline: u32,
+    pub value: u32,
+    pub device: Device,
+}
+
+#[repr(C)]
+pub(crate) struct FlashReadAnswer {
+    pub decline: u32,
+    pub word: u32,
+}
+
+#[repr(C)]
+pub(crate) struct LowerBankAnswer {
+    pub decline: u32,
+    pub bank: u32,
+    pub length: usize,
+}
+
+#[repr(C)]
+pub(crate) struct PageAnswer {
+    pub decline: u32,
+    pub offset: usize,
+    pub length: usize,
+}
+
+#[repr(C)]
+struct Mask {
+    words: [u32; 4],
+}
+
+#[repr(C)]
+pub(crate) struct UpdateStartAnswer {
+    pub decline: u32,
+    pub place: u32,
+    pub total: u32,
+}
+
+#[repr(C)]
+pub(crate) struct TurnOutcome {
+    pub decline: u32,
+    pub place: u32,
+    pub done: bool,
+    pub event: bool,
+}
+
+#[repr(C)]
+pub(crate) struct TurnAnswer {
+    pub device: Device,
+    pub outcome: TurnOutcome,
+}
+
+#[repr(C)]
+pub(crate) struct PlayAnswer {
+    pub decline: u32,
+    pub bytes: usize,
+    pub device: Device,
+}
+
+#[repr(C)]
+pub(crate) struct PlayLengthAnswer {
+    pub decline: u32,
+    pub bytes: usize,
+}
+
+extern "C" {
+    fn yohrundel_power_on() -> Device;
+
+    fn yohrundel_store(g: Geometry, d: Device, register: u32, form: u32, value: u32)
+        -> EventAnswer;
+
+    fn yohrundel_register_read(g: Geometry, d: Device, register: u32) -> RegisterReadAnswer;
+
+    fn yohrundel_start_up(g: Geometry, d: Device) -> DeviceAnswer;
+
+    fn yohrundel_flash_read(
+        g: Geometry,
+        d: Device,
+        one: *const u32,
+        one_words: usize,
+        two: *const u32,
+        two_words: usize,
+        address: u32,
+    ) -> FlashReadAnswer;
+
+    fn yohrundel_lower_bank(
+        g: Geometry,
+        d: Device,
+        one: *const u32,
+        one_words: usize,
+        two: *const u32,
+        two_words: usize,
+    ) -> LowerBankAnswer;
+
+    fn yohrundel_page(g: Geometry, bank: *const u32, bank_words: usize, page: u32) -> PageAnswer;
+
+    fn yohrundel_step(
+        g: Geometry,
+        d: Device,
+        one: *mut u32,
+        one_words: usize,
+        two: *mut u32,
+        two_words: usize,
+        sram: *const u32,
+        sram_words: usize,
+    ) -> EventAnswer;
+
+    fn yohrundel_reset(
+        g: Geometry,
+        d: Device,
+        one: *mut u32,
+        one_words: usize,
+        two: *mut u32,
+        two_words: usize,
+        sram: *const u32,
+        sram_words: usize,
+        kind: u32,
+        mask: Mask,
+    ) -> DeviceAnswer;
+
+    fn yohrundel_update_start(
+        g: Geometry,
+        d: Device,
+        one: *const u32,
+        one_words: usize,
+        two: *const u32,
+        two_words: usize,
+        image: *const u32,
+        image_words: usize,
+    ) -> UpdateStartAnswer;
+
+    fn yohrundel_turn(
+        g: Geometry,
+        d: Device,
+        one: *mut u32,
+        one_words: usize,
+        two: *mut u32,
+        two_words: usize,
+        image: *const u32,
+        image_words: usize,
+        sram: *const u32,
+        sram_words: usize,
+        place: u32,
+    ) -> TurnAnswer;
+
+    fn yohrundel_turn_lent(
+        g: Geometry,
+        d: *mut Device,
+        one: *mut u32,
+        one_words: usize,
+        two: *mut u32,
+        two_words: usize,
+        image: *const u32,
+        image_words: usize,
+        sram: *const u32,
+        sram_words: usize,
+        place: u32,
+    ) -> TurnOutcome;
+
+    fn yohrundel_play(
+        g: Geometry,
+        d: Device,
+        one: *mut u32,
+        one_words: usize,
+        two: *mut u32,
+        two_words: usize,
+        sram: *const u32,
+        sram_words: usize,
+        script: *const u8,
+        script_bytes: usize,
+        out: *mut u8,
+        out_bytes: usize,
+    ) -> PlayAnswer;
+
+    fn yohrundel_play_length(
+        g: Geometry,
+        d: Device,
+        one: *const u32,
+        one_words: usize,
+        two: *const u32,
+        two_words: usize,
+        sram: *const u32,
+        sram_words: usize,
+        script: *const u8,
+        script_bytes: usize,
+    ) -> PlayLengthAnswer;
+}
+
+pub(crate) fn power_on() -> Device {
+    // SAFETY: nothing is handed over.
+    unsafe { yohrundel_power_on() }
+}
+
+pub(crate) fn store(g: Geometry, d: Device, register: u32, form: u32, value: u32) -> EventAnswer {
+    // SAFETY: all is handed over by value.
+    unsafe { yohrundel_store(g, d, register, form, value) }
+}
+
+pub(crate) fn register_read(g: Geometry, d: Device, register: u32) -> RegisterReadAnswer {
+    // SAFETY: all is handed over by value.
+    unsafe { yohrundel_register_read(g, d, register) }
+}
+
+pub(crate) fn start_up(g: Geometry, d: Device) -> DeviceAnswer {
+    // SAFETY: all is handed over by value.
+    unsafe { yohrundel_start_up(g, d) }
+}
+
+pub(crate) fn flash_read(
+    g: Geometry,
+    d: Device,
+    one: &[u32],
+    two: &[u32],
+    address: u32,
+) -> FlashReadAnswer {
+    let (one, one_words) = (one.as_ptr(), one.len());
+    let (two, two_words) = (two.as_ptr(), two.len());
+    // SAFETY: each pointer and its count are a slice's; nothing is written.
+    unsafe { yohrundel_flash_read(g, d, one, one_words, two, two_words, address) }
+}
+
+pub(crate) fn lower_bank(g: Geometry, d: Device, one: &[u32], two: &[u32]) -> LowerBankAnswer {
+    let (one, one_words) = (one.as_ptr(), one.len());
+    let (two, two_words) = (two.as_ptr(), two.len());
+    // SAFETY: each pointer and its count are a slice's; nothing is written.
+    unsafe { yohrundel_lower_bank(g, d, one, one_words, two, two_words) }
+}
+
+pub(crate) fn page(g: Geometry, bank: &[u32], page: u32) -> PageAnswer {
+    // SAFETY: the pointer and the count are a slice's; nothing is written.
+    unsafe { yohrundel_page(g, bank.as_ptr(), bank.len(), page) }
+}
+
+pub(crate) fn step(
+    g: Geometry,
+    d: Device,
+    one: &mut [u32],
+    two: &mut [u32],
+    sram: &[u32],
+) -> EventAnswer {
+    let (one, one_words) = (one.as_mut_ptr(), one.len());
+    let (two, two_words) = (two.as_mut_ptr(), two.len());
+    let (sram, sram_words) = (sram.as_ptr(), sram.len());
+    // SAFETY: each pointer and its count are a slice's; only the banks are written, which are borrowed for it.
+    unsafe { yohrundel_step(g, d, one, one_words, two, two_words, sram, sram_words) }
+}
+
+pub(crate) fn reset(
+    g: Geometry,
+    d: Device,
+    one: &mut [u32],
+    two: &mut [u32],
+    sram: &[u32],
+    kind: u32,
+    words: [u32; 4],
+) -> DeviceAnswer {
+    let (one, one_words) = (one.as_mut_ptr(), one.len());
+    let (two, two_words) = (two.as_mut_ptr(), two.len());
+    let (sram, sram_words) = (sram.as_ptr(), sram.len());
+    let mask = Mask { words };
+    // SAFETY: each pointer and its count are a slice's; only the banks are written, which are borrowed for it.
+    unsafe {
+        yohrundel_reset(
+            g, d, one, one_words, two, two_words, sram, sram_words, kind, mask,
+        )
+    }
+}
+
+pub(crate) fn update_start(
+    g: Geometry,
+    d: Device,
+    one: &[u32],
+    two: &[u32],
+    image: &[u32],
+) -> UpdateStartAnswer {
+    let (one, one_words) = (one.as_ptr(), one.len());
+    let (two, two_words) = (two.as_ptr(), two.len());
+    let (image, image_words) = (image.as_ptr(), image.len());
+    // SAFETY: each pointer and its count are a slice's; nothing is written.
+    unsafe { yohrundel_update_start(g, d, one, one_words, two, two_words, image, image_words) }
+}
+
+pub(crate) fn turn(
+    g: Geometry,
+    d: Device,
+    one: &mut [u32],
+    two: &mut [u32],
+    image: &[u32],
+    sram: &[u32],
+    place: u32,
+) -> TurnAnswer {
+    let (one, one_words) = (one.as_mut_ptr(), one.len());
+    let (two, two_words) = (two.as_mut_ptr(), two.len());
+    let (image, image_words) = (image.as_ptr(), image.len());
+    let (sram, sram_words) = (sram.as_ptr(), sram.len());
+    // SAFETY: each pointer and its count are a slice's; only the banks are written, which are borrowed for it.
+    unsafe {
+        yohrundel_turn(
+            g,
+            d,
+            one,
+            one_words,
+            two,
+            two_words,
+            image,
+            image_words,
+            sram,
+            sram_words,
+            place,
+        )
+    }
+}
+
+pub(crate) fn turn_lent(
+    g: Geometry,
+    d: &mut Device,
+    one: &mut [u32],
+    two: &mut [u32],
+    image: &[u32],
+    sram: &[u32],
+    place: u32,
+) -> TurnOutcome {
+    let (one, one_words) = (one.as_mut_ptr(), one.len());
+    let (two, two_words) = (two.as_mut_ptr(), two.len());
+    let (image, image_words) = (image.as_ptr(), image.len());
+    let (sram, sram_words) = (sram.as_ptr(), sram.len());
+    // SAFETY: each pointer and its count are a slice's; only the device and the banks are written, which are borrowed for it.
+    unsafe {
+        yohrundel_turn_lent(
+            g,
+            d,
+            one,
+            one_words,
+            two,
+            two_words,
+            image,
+            image_words,
+            sram,
+            sram_words,
+            place,
+        )
+    }
+}
+
+pub(crate) fn play(
+    g: Geometry,
+    d: Device,
+    one: &mut [u32],
+    two: &mut [u32],
+    sram: &[u32],
+    script: &[u8],
+    out: &mut [u8],
+) -> PlayAnswer {
+    let (one, one_words) = (one.as_mut_ptr(), one.len());
+    let (two, two_words) = (two.as_mut_ptr(), two.len());
+    let (sram, sram_words) = (sram.as_ptr(), sram.len());
+    let (script, script_bytes) = (script.as_ptr(), script.len());
+    let (out, out_bytes) = (out.as_mut_ptr(), out.len());
+    // SAFETY: each pointer and its count are a slice's; only the banks and the buffer are written, which are borrowed for it.
+    unsafe {
+        yohrundel_play(
+            g,
+            d,
+            one,
+            one_words,
+            two,
+            two_words,
+            sram,
+            sram_words,
+            script,
+            script_bytes,
+            out,
+            out_bytes,
+        )
+    }
+}
+
+pub(crate) fn play_length(
+    g: Geometry,
+    d: Device,
+    one: &[u32],
+    two: &[u32],
+    sram: &[u32],
+    script: &[u8],
+) -> PlayLengthAnswer {
+    let (one, one_words) = (one.as_ptr(), one.len());
+    let (two, two_words) = (two.as_ptr(), two.len());
+    let (sram, sram_words) = (sram.as_ptr(), sram.len());
+    let (script, script_bytes) = (script.as_ptr(), script.len());
+    // SAFETY: each pointer and its count are a slice's; nothing is written.
+    unsafe {
+        yohrundel_play_length(
+            g,
+            d,
+            one,
+            one_words,
+            two,
+            two_words,
+            sram,
+            sram_words,
+            script,
+            script_bytes,
+        )
+    }
+}

@@ -1,0 +1,47 @@
+//! The sizes of a sign.
+
+use crate::{ffi, Decline};
+
+/// Q, B and P. Each call judges them; any numbers may be handed over.
+#[repr(C)]
+#[derive(Clone, Copy, Debug, PartialEq, Eq, Hash)]
+pub struct Geometry {
+    /// Quads per row: 1, 2, 4, 8, 16, 32, 64 or 128.
+    pub q: u32,
+    /// Boot pages per bank: 1 to 5.
+    pub b: u32,
+    /// Program pages per bank: 1 to 64.
+    pub p: u32,
+}
+
+impl Geometry {
+    /// The pages of a bank: N = B+P.
+    pub fn pages(self) -> Result<usize, Decline> {
+        self.judge()?;
+        Ok((self.b + self.p) as usize)
+    }
+
+    /// The words of a page: 32×Q.
+    pub fn page_words(self) -> Result<usize, Decline> {
+        self.judge()?;
+        Ok(32 * self.q as usize)
+    }
+
+    /// The words of a bank and of an image: N×32×Q.
+    pub fn bank_words(self) -> Result<usize, Decline> {
+        Ok(self.pages()? * self.page_words()?)
+    }
+
+    /// The index in a bank of its sequence word: "word 0 of the last quad of the last boot page".
+    pub fn sequence_index(self) -> Result<usize, Decline> {
+        Ok(self.b as usize * self.page_words()? - 4)
+    }
+
+    /// Decline 1, asked of the library: no bank has 0 words, so a page of one is declined by 1 or by 2.
+    fn judge(self) -> Result<(), Decline> {
+        match Decline::judge(ffi::page(self, &[], 0).decline) {
+            Err(Decline::Geometry) => Err(Decline::Geometry),
+            _ => Ok(()),
+        }
+    }
+}

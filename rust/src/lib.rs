@@ -1,0 +1,43 @@
+//! The Live Update flash controller and its bank updater, proved in Rattle and called from Rust.
+//!
+//! A sign has a [`Device`] and two banks of words, whose sizes its [`Geometry`] gives. Each call takes them, does its work, or is
+//! declined by a [`Decline`]; a declined call leaves everything as it was. Any numbers, lengths and contents are taken.
+//!
+//! ```
+//! use yohrundel::{reset, start_up, update_start, Bank, Decline, Device, Geometry};
+//!
+//! fn main() -> Result<(), Decline> {
+//!     let sign = Geometry { q: 1, b: 1, p: 1 };
+//!     let (mut one, mut two) = ([!0; 64], [!0; 64]);
+//!     one[sign.sequence_index()?] = 0xFFFE_0001;
+//!     let device = reset(sign, Device::power_on(), &mut one, &mut two, &[], 0, [0; 4])?;
+//!     let device = start_up(sign, device)?;
+//!     assert_eq!(device.running_bank(), Some(Bank::One));
+//!     let update = update_start(sign, device, &one, &two, &[7; 64])?;
+//!     println!("an update has {} actions", update.total);
+//!     Ok(())
+//! }
+//! ```
+//!
+//! `examples/update.rs` runs a whole update with a cut. "The paper" is document 01, *Live Update flash: controller and bank updater*.
+
+#![deny(missing_docs)]
+
+mod bank_calls;
+mod decline;
+mod device;
+mod device_calls;
+mod ffi;
+mod geometry;
+mod numbers;
+mod script_calls;
+mod update_calls;
+
+pub use bank_calls::{flash_read, lower_bank, page, reset, step, Stepped};
+pub use decline::Decline;
+pub use device::{Bank, Device};
+pub use device_calls::{register_read, start_up, store, RegisterRead, Stored};
+pub use geometry::Geometry;
+pub use numbers::{form, nvmcon, register, reset_kind};
+pub use script_calls::{play, play_length, Played};
+pub use update_calls::{turn, turn_lent, update_start, Started, TurnOutcome, Turned};

@@ -1,0 +1,57 @@
+//! Cases of every call: random and damaged, directed, and stored ones.
+
+use std::path::Path;
+
+use model::generate::{directed, Cases, DEFAULT_WORDS, MOST_WORDS};
+
+use crate::case::check;
+use crate::settings::{cases, seed, Report};
+
+fn random_cases(seed: u64, most_words: u32, count: usize) {
+    let report = Report::new(format!(
+        "calls on banks of up to {most_words} words, seed {seed}"
+    ));
+    for case in Cases::new(seed, most_words).take(count) {
+        let expected = case.answer().expect("a case that the model knows");
+        check(&case.inputs(), &expected);
+    }
+    report.finish(format_args!("{count} cases"));
+}
+
+#[test]
+fn random_short_cases() {
+    random_cases(seed(1), DEFAULT_WORDS, cases(1));
+}
+
+#[test]
+fn random_middle_cases() {
+    random_cases(seed(2), 8192, cases(40));
+}
+
+#[test]
+fn random_long_cases() {
+    random_cases(seed(3), MOST_WORDS, cases(200));
+}
+
+#[test]
+fn directed_cases() {
+    let report = Report::new(String::from("directed calls"));
+    let all = directed::cases();
+    for (_, case) in &all {
+        let expected = case.answer().expect("a case that the model knows");
+        check(&case.inputs(), &expected);
+    }
+    report.finish(format_args!("{} cases", all.len()));
+}
+
+#[test]
+fn stored_cases() {
+    let report = Report::new(String::from("stored calls"));
+    let file = Path::new(env!("CARGO_MANIFEST_DIR")).join("../model/vectors/calls.txt");
+    let text = std::fs::read_to_string(file).expect("the stored cases");
+    for line in text.lines() {
+        let (inputs, expected) = line.split_once(" | ").expect("a bar");
+        check(inputs, expected);
+    }
+    report.finish(format_args!("{} cases", text.lines().count()));
+}
