@@ -14,6 +14,7 @@ const USAGE: &str = "usage:
   model directed [SUBJECT]
   model complete FILE
   model cases SEED COUNT [MAX_WORDS]
+  model requests SEED COUNT [MAX_WORDS]
   model script SEED [damaged]
   model update Q B P
   model cuts";
