@@ -27,6 +27,8 @@ pub fn run(words: &[&str]) -> Option<io::Result<bool>> {
         ["play_bundle"] => Some(play_bundle()),
         ["directed"] => Some(print_directed(directed::cases(), "")),
         ["directed", subject] => Some(print_directed(directed::cases(), subject)),
+        ["directed_requests"] => Some(print_directed(directed::request_cases(), "")),
+        ["directed_requests", subject] => Some(print_directed(directed::request_cases(), subject)),
         ["complete", file] => Some(complete(file)),
         ["cases", seed, count] => cases(Cases::new, seed, count, DEFAULT_WORDS),
         ["cases", seed, count, most] => cases(Cases::new, seed, count, most.parse().ok()?),

@@ -12,6 +12,7 @@ const USAGE: &str = "usage:
   model bundle DIR COUNT
   model play_bundle
   model directed [SUBJECT]
+  model directed_requests [SUBJECT]
   model complete FILE
   model cases SEED COUNT [MAX_WORDS]
   model requests SEED COUNT [MAX_WORDS]
