@@ -4,7 +4,7 @@ use mathlib.Core.Bool.{Bool}
 use lib.Dec.{eqb}
 use Rattle.words.specs.Word.{pick}
 use Rattle.words.specs.declared.decline.Decline.{Decline}
-use Rattle.words.specs.declared.decline.Decline.the-variants.{Accepted, Geometry, Length, Device, Register, Running, Idle, ResetKind, Address, Busy, Sequence, LastSequence, Protection, Place, Script}
+use Rattle.words.specs.declared.decline.Decline.the-variants.{Accepted, Geometry, Length, Device, Register, Running, Idle, ResetKind, Address, Busy, Sequence, LastSequence, Protection, Place, Script, SheetBuffer}
 
 abbrev pub numberOf : Decline → ℕ
 numberOf Accepted = 0
@@ -22,6 +22,7 @@ numberOf LastSequence = 11
 numberOf Protection = 12
 numberOf Place = 13
 numberOf Script = 14
+numberOf SheetBuffer = 18
 
 -- the call was carried out
 abbrev pub acceptedOf : Decline → Bool

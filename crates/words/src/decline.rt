@@ -33,6 +33,8 @@ pub enum Decline {
     Place,
     // 14: not a script.
     Script,
+    // 18: the buffer is shorter than the sheet.
+    SheetBuffer,
 }
 
 impl Decline {
@@ -56,6 +58,7 @@ impl Decline {
             Decline::Protection => 12,
             Decline::Place => 13,
             Decline::Script => 14,
+            Decline::SheetBuffer => 18,
         }
     }
 
