@@ -4,9 +4,7 @@ use mathlib.Core.Path.{_≡_, refl}
 use mathlib.Core.Bool.{true}
 use mathlib.Core.List.{[], _∷_}
 use Prim.Native.Nat.{ℕ, _≤_}
-use lib.Dec.{leb}
 use borrow.Author.Tests.{leb-true}
-use Rattle.words.specs.Word.{pick}
 use Rattle.words.specs.declared.decline.Decline.{Decline}
 use Rattle.words.specs.Decline.{acceptedOf}
 use Rattle.words.proofs.DeclineLaws.{held, neither}
@@ -26,11 +24,11 @@ pub record Holds (g : Geometry) (one two buffer : ℕ) : Type 0 where
 pub holds : (g : Geometry) (d : Device) (one two buffer : ℕ) → acceptedOf (pageSheetDeclineOf g d one two buffer) ≡ true → Holds g one two buffer
 unfolding pageSheetDeclineOf
 holds g d one two buffer h =
-    let (opened, fits) = neither (openingOf g d (one ∷ two ∷ []) 0) (pick (leb (sheetBytesOf g) buffer) Decline.Accepted Decline.SheetBuffer) h in
+    let (opened, fits) = neither (openingOf g d (one ∷ two ∷ []) 0) _ h in
     let lent = ready g d (one ∷ two ∷ []) 0 opened .lent in
     record {
       range = lent .range;
       first = lent .banks .0;
       other = lent .banks .1 .0;
-      room = leb-true _ _ (held (leb (sheetBytesOf g) buffer) Decline.Accepted Decline.SheetBuffer refl fits .0);
+      room = leb-true _ _ (held _ Decline.Accepted Decline.SheetBuffer refl fits .0);
     }

@@ -4,7 +4,7 @@ use mathlib.Core.Bool.{Bool, true, false}
 use Prim.Native.Nat.{ℕ, _+_, _*_, _≤_, _<_}
 use native.Mathlib.Omega.{arith}
 use Rattle.geometry.specs.declared.banks.Geometry.{Geometry}
-use Rattle.geometry.specs.Banks.{InRange, pagesOf, pageQuadsOf, pageWordsOf, bankWordsOf}
+use Rattle.geometry.specs.Banks.{InRange, pagesOf, pageQuadsOf, bankWordsOf}
 use Rattle.geometry.proofs.SizeLaws.{page-in-bank}
 use Rattle.sheet.specs.State.{kindPagesOf, pageIndexOf}
 

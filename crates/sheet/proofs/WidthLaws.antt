@@ -1,16 +1,15 @@
 -- The widths: a page number below 1,000 has three digits at most and a count of a page's quads four, so that each line is 17 bytes.
 -- Assumes nothing.
-use mathlib.Core.Path.{_≡_, refl, _∙_, ap, sym}
+use mathlib.Core.Path.{_≡_, refl}
 use mathlib.Core.Bool.{Bool, true, false}
 use mathlib.Core.List.{List, [], _∷_, _++_}
-use Prim.Native.Nat.{ℕ, zero, suc, _+_, _-_, _*_, _^_, _≤_, _<_}
-use native.Mathlib.Nat.{mul-suc}
+use Prim.Native.Nat.{ℕ, zero, suc, _+_, _*_, _≤_, _<_}
 use native.Mathlib.Omega.{arith}
 use mir.Val.{boolByte}
-use lib.ListN.{length, replicate, length-append, length-replicate}
+use lib.ListN.{length, length-append, length-replicate}
 use Rattle.words.specs.Word.{pick}
 use Rattle.words.specs.Quad.{quadAt, isBlankOf}
-use Rattle.lines.specs.Digits.{digitsOf, widthOf}
+use Rattle.lines.specs.Digits.{widthOf}
 use Rattle.lines.specs.Lines.{blank, lineFeed, flagOf}
 use Rattle.lines.proofs.DigitLaws.{digits-length, width-one, width-at-most}
 use Rattle.lines.proofs.LineLaws.{flag-digit}
@@ -62,12 +61,7 @@ used-at-most bank first (suc n) = omega (arith, used-at-most bank first n, used-
 -- ---- the columns of a line
 
 pub right-length : (columns n : ℕ) → widthOf n ≤ columns → length (rightOf columns n) ≡ columns
-right-length columns n l =
-    rw (
-      length-append (replicate (columns - widthOf n) blank) (digitsOf 10 n (widthOf n)),
-      length-replicate (columns - widthOf n) blank,
-      digits-length 10 n (widthOf n),
-    ) (omega arith)
+right-length columns n l = simp (length-append, length-replicate, digits-length) (omega arith)
 
 pub right-column-length : (columns n end : ℕ) → widthOf n ≤ columns → length (rightColumnOf columns n end) ≡ columns + 1
 right-column-length columns n end l = rw (length-append (rightOf columns n) (end ∷ []), right-length columns n l)

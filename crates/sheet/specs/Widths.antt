@@ -1,5 +1,5 @@
--- "Widths are shown once for every page and size.": for every Q of the list and up to 1,000 pages of a kind (`widths` of
--- proofs/WidthLaws proves it). Assumes nothing.
+-- "Widths are shown once for every page and size.": for every Q of the list and up to 1,000 pages of a kind, whatever the limit of P
+-- (`widths` of proofs/WidthLaws proves it). Assumes nothing.
 use Prim.Native.Nat.{ℕ, _*_, _≤_, _<_}
 use mathlib.Core.Path.{_≡_}
 use mathlib.Core.Bool.{Bool, true}

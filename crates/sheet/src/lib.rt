@@ -1,4 +1,4 @@
-// The page sheet: a line for each page of both banks, in a lent buffer.
-pub mod line;
+// The page sheet: a line for each page of both banks, in a lent buffer. Its one call is sheet::page_sheet.
+mod line;
 pub mod sheet;
-pub mod state;
+mod state;

@@ -1,6 +1,5 @@
 -- The invariant: the blanks that are left, written now, make what all make at the start. The measure is those that are left.
 use Prim.Native.Nat.{_+_, _-_, _≤_}
-use borrow.Author.Needs.{needs}
 use lib.ListN.{length, replicate, length-set}
 use lib.Seq.{sets}
 use mathlib.Core.Path.{_∙_, _≡_, refl}

@@ -1,5 +1,4 @@
 -- After the boot pages, or among them.
-use borrow.Author.Needs.{needs}
 use native.Mathlib.Omega.{arith}
 use Rattle.sheet.proofs.state.page_index.Statement.{statement}
 use Rattle.sheet.proofs.state.page_index.Tie as tie
