@@ -19,6 +19,7 @@ use Rattle.script.specs.declared.play.PlayLength.{PlayLength}
 use Rattle.script.specs.Play.{Playback}
 use Rattle.update.specs.declared.start.Started.{Started}
 use Rattle.planner.specs.declared.plan.Planned.{Planned}
+use Rattle.sheet.specs.Sheet.{Given}
 use Rattle.yohrundel.specs.declared.answers.EventAnswer.{EventAnswer}
 use Rattle.yohrundel.specs.declared.answers.DeviceAnswer.{DeviceAnswer}
 use Rattle.yohrundel.specs.declared.answers.RegisterReadAnswer.{RegisterReadAnswer}
@@ -29,6 +30,7 @@ use Rattle.yohrundel.specs.declared.answers.UpdateStartAnswer.{UpdateSta
 use Rattle.yohrundel.specs.declared.answers.PlayAnswer.{PlayAnswer}
 use Rattle.yohrundel.specs.declared.answers.PlayLengthAnswer.{PlayLengthAnswer}
 use Rattle.yohrundel.specs.declared.answers.PlanAnswer.{PlanAnswer}
+use Rattle.yohrundel.specs.declared.answers.PageSheetAnswer.{PageSheetAnswer}
 
 -- ---- calls that lend nothing for writing: the answer is the definition's result
 
@@ -84,3 +86,6 @@ ResetGives a r one two =
 abbrev pub PlayGives : Playback → PlayAnswer → List ℕ → List ℕ → List ℕ → Type 0
 PlayGives a r one two buffer =
     (r ≡ record { decline = numberOf (a .decline); bytes = a .bytes; device = a .after .device }) × ((one ≡ a .after .one) × ((two ≡ a .after .two) × (buffer ≡ a .buffer)))
+
+abbrev pub PageSheetGives : Given → PageSheetAnswer → List ℕ → Type 0
+PageSheetGives a r buffer = (r ≡ record { decline = numberOf (a .decline); bytes = a .bytes }) × (buffer ≡ a .buffer)

@@ -77,3 +77,9 @@ pub struct PlanAnswer {
     pub decline: u32,
     pub wait: u32,
 }
+
+#[repr(C)]
+pub struct PageSheetAnswer {
+    pub decline: u32,
+    pub bytes: usize,
+}

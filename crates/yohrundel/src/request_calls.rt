@@ -1,14 +1,19 @@
-// The exported calls of the later requests: garage hours, byte lanes.
+// The exported calls of the later requests: garage hours, page sheet, byte lanes.
 ghost use mathlib.Core.Path.{_≡_};
 ghost use lib.ListN.{length};
 ghost use Rattle.words.specs.Decline.{numberOf};
 ghost use Rattle.planner.specs.Planner.{planOf};
+ghost use Rattle.sheet.specs.Sheet.{pageSheetOf};
 ghost use Rattle.lanes.specs.Lanes.{lanesOutOf, lanesBackOf, lanesDeclineOf, targetOf};
-ghost use Rattle.yohrundel.specs.Answers.{planAnswerOf};
+ghost use Rattle.yohrundel.specs.Answers.{planAnswerOf, PageSheetGives};
+use crate::answers::PageSheetAnswer;
 use crate::answers::PlanAnswer;
+use device::record::Device;
+use geometry::banks::Geometry;
 use lanes::lanes::lanes_back;
 use lanes::lanes::lanes_out;
 use planner::plan::plan;
+use sheet::sheet::page_sheet;
 
 // The least wait until a garage's hours hold a whole update.
 #[no_mangle]
@@ -20,6 +25,25 @@ pub extern "C" fn yohrundel_plan(minute: u32, duration: u32, windows: &[u32]) ->
     PlanAnswer {
         decline: decline.number(),
         wait: a.wait,
+    }
+}
+
+// Writes a line for each page of both banks into a buffer.
+#[no_mangle]
+pub extern "C" fn yohrundel_page_sheet(
+    g: Geometry,
+    d: Device,
+    one: &[u32],
+    two: &[u32],
+    out: &mut [u8],
+) -> PageSheetAnswer
+    ensures { λ r. ⌜ PageSheetGives (pageSheetOf g d (now (one .entry)) (now (two .entry)) (now (out .entry))) r (now (out .exit)) ⌝ }
+{
+    let a = page_sheet(g, d, one, two, out);
+    let decline = a.decline;
+    PageSheetAnswer {
+        decline: decline.number(),
+        bytes: a.bytes,
     }
 }
 
