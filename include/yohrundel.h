@@ -1,7 +1,9 @@
 /*
  * Yohrundel: the Live Update flash controller and its bank updater, for programs in C and C++.
  *
- * Link libyohrundel.a, which `rt staticlib yohrundel` writes to target/staticlib/ for x86-64.
+ * Link libyohrundel.a, which `rt staticlib yohrundel` writes to target/staticlib/ for x86-64. One call, yohrundel_turn_lent, is in
+ * libyohrundel_lent.a beside it, which `rt staticlib yohrundel_lent` writes: there the compiler makes one function of the whole turn, as
+ * it does not among other calls, and that is faster.
  * "The paper" is document 01, Live Update flash: controller and bank updater.
  *
  * A call keeps nothing from one call to the next and allocates nothing: all that it works on is handed over by value or lent. Calls on
@@ -350,7 +352,7 @@ yohrundel_turn_answer yohrundel_turn(
     const uint32_t *sram, size_t sram_words,
     uint32_t place);
 
-/* The same turn with the device lent and changed in place. */
+/* The same turn with the device lent and changed in place: the call of libyohrundel_lent.a. */
 yohrundel_turn_outcome yohrundel_turn_lent(
     yohrundel_geometry g, yohrundel_device *d,
     uint32_t *one, size_t one_words,

@@ -1,4 +1,4 @@
-//! The archive's functions and their answers as `include/yohrundel.h` declares them, and the one place that calls them.
+//! The archives' functions and their answers as `include/yohrundel.h` declares them, and the one place that calls them.
 //!
 //! A slice is two arguments, a pointer and a count. The functions take every number, every length and every content. What they ask of a
 //! caller a borrow gives: each pointer is that of a slice of as many elements, which lives during the call, and what is written is
