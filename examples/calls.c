@@ -94,6 +94,14 @@ static void step_call(yohrundel_device d)
     printf("\n");
 }
 
+/* A window on Tuesday, and one from Sunday on past the end of the week, which is over at minute 240. */
+static void plan_call(void)
+{
+    static const uint32_t windows[] = {1500, 240, 9960, 360};
+    const yohrundel_plan_answer planned = yohrundel_plan(200, 60, windows, sizeof windows / sizeof windows[0]);
+    printf("plan %" PRIu32 " %" PRIu32 "\n", planned.decline, planned.wait);
+}
+
 static void script_calls(yohrundel_device d)
 {
     const yohrundel_play_length_answer length =
@@ -118,6 +126,7 @@ int main(void)
     device_calls(d);
     reading_calls(d);
     step_call(d);
+    plan_call();
     script_calls(d);
     return EXIT_SUCCESS;
 }

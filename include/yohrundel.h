@@ -92,7 +92,11 @@ enum yohrundel_decline {
      * A script whose length isn't a multiple of 8, or a record with an unknown kind, register, form or reset kind or an unused byte
      * not 0.
      */
-    YOHRUNDEL_DECLINE_SCRIPT = 14
+    YOHRUNDEL_DECLINE_SCRIPT = 14,
+    /* A plan's present minute, duration, count of windows, or a window's start or length is out of range. */
+    YOHRUNDEL_DECLINE_HOURS = 15,
+    /* A plan that no wait fits. */
+    YOHRUNDEL_DECLINE_NO_WAIT = 16
 };
 
 /* The registers by their numbers. */
@@ -265,6 +269,13 @@ typedef struct yohrundel_play_length_answer {
     size_t bytes;
 } yohrundel_play_length_answer;
 
+/* The answer to a plan. */
+typedef struct yohrundel_plan_answer {
+    uint32_t decline;
+    /* The smallest wait in minutes, 0 to 10,079; 0 where declined. */
+    uint32_t wait;
+} yohrundel_plan_answer;
+
 /*
  * ---- calls on a device alone
  *
@@ -388,6 +399,20 @@ yohrundel_play_length_answer yohrundel_play_length(
     const uint32_t *two, size_t two_words,
     const uint32_t *sram, size_t sram_words,
     const uint8_t *script, size_t script_bytes);
+
+/*
+ * ---- the call for garage hours
+ *
+ * A week has minutes 0 to 10,079 from Monday 00:00. A window has a start minute and a length of 1 to 10,080 and may run past the end of
+ * the week. One of 10,080 holds every minute; a shorter one holds its first minute and not the one after its last.
+ */
+
+/*
+ * The smallest wait from the present minute on after which all minutes of a duration of 1 to 1,440, counted modulo 10,080, lie in the same
+ * window. The windows, 1 to 14, are lent as start, length, start, length, ..; count counts these numbers, and an odd count is out of range.
+ * Declines 15 and 16.
+ */
+yohrundel_plan_answer yohrundel_plan(uint32_t minute, uint32_t duration, const uint32_t *windows, size_t count);
 
 #ifdef __cplusplus
 }

@@ -6,6 +6,10 @@
 
 #![allow(unsafe_code)]
 
+mod plan;
+
+pub(crate) use plan::plan;
+
 use crate::{Device, Geometry};
 
 #[repr(C)]

@@ -45,6 +45,7 @@ fn call(name: &str, inputs: &mut Inputs) -> String {
         "turn" => turn_case(inputs),
         "play" => play_case(inputs),
         "play_length" => text(&play_length_case(inputs)),
+        "plan" => text(&plan_case(inputs)),
         _ => panic!("no case of a call: {name}"),
     }
 }
@@ -104,4 +105,10 @@ fn play_length_case(inputs: &mut Inputs) -> Answer {
     let (one, two, sram) = (inputs.list(), inputs.list(), inputs.list());
     let bytes = play_length(sign, device, &one, &two, &sram, &inputs.bytes())?;
     Ok(vec![bytes as u64])
+}
+
+fn plan_case(inputs: &mut Inputs) -> Answer {
+    let (minute, duration) = (inputs.number(), inputs.number());
+    let wait = plan(minute, duration, &inputs.pairs())?;
+    Ok(vec![wait.into()])
 }

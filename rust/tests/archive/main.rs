@@ -11,6 +11,7 @@ mod inputs;
 mod lent;
 mod names;
 mod play_cases;
+mod requests;
 mod rules;
 mod scripts;
 mod settings;

@@ -48,6 +48,8 @@ fn numbers_of_the_declines() {
         Refusal::Protection,
         Refusal::Place,
         Refusal::Script,
+        Refusal::WeekRange,
+        Refusal::NoWait,
     ];
     assert_eq!(
         Decline::ALL.map(Decline::number),
