@@ -102,6 +102,19 @@ static void plan_call(void)
     printf("plan %" PRIu32 " %" PRIu32 "\n", planned.decline, planned.wait);
 }
 
+/* Two words in byte lanes and back. */
+static void lanes_calls(void)
+{
+    const uint8_t image[8] = {1, 2, 3, 4, 5, 6, 7, 8};
+    uint8_t stored[8] = {0}, restored[8] = {0};
+    printf("lanes_out %" PRIu32 " 8", yohrundel_lanes_out(image, 8, stored, 8));
+    for (int i = 0; i < 8; i++)
+        printf(" %d %d", i, stored[i]);
+    printf("\n");
+    expect(yohrundel_lanes_back(stored, 8, restored, 8) == YOHRUNDEL_ACCEPTED, "the answer to the way back");
+    expect(memcmp(restored, image, sizeof image) == 0, "the image after the way back");
+}
+
 static void script_calls(yohrundel_device d)
 {
     const yohrundel_play_length_answer length =
@@ -127,6 +140,7 @@ int main(void)
     reading_calls(d);
     step_call(d);
     plan_call();
+    lanes_calls();
     script_calls(d);
     return EXIT_SUCCESS;
 }

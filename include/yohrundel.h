@@ -13,14 +13,14 @@
  *
  *   Every number, every length and every content of the lent memory is taken. A call does its work, or declines it by a number of
  *   enum yohrundel_decline, the lowest that applies. A declined call changes nothing: the device in its answer is the one handed over,
- *   the banks and the buffer keep their contents.
+ *   the banks, the buffer and the target keep their contents.
  *
  * Mistakes that no call can see
  *
  *   - a pointer that does not point to as many words or bytes as the count beside it says, or is not aligned for them;
  *     a null pointer goes with the count 0 only, and the device of yohrundel_turn_lent is never null;
- *   - lent memory that overlaps other lent memory where one of the two is written: the two banks, the device of yohrundel_turn_lent
- *     and the buffer of yohrundel_play are; where both are only read, they may overlap;
+ *   - lent memory that overlaps other lent memory where one of the two is written: the two banks, the device of yohrundel_turn_lent,
+ *     the buffer of yohrundel_play and the target of byte lanes are; where both are only read, they may overlap;
  *   - lent memory that another thread changes during the call.
  *
  * Sizes
@@ -96,7 +96,9 @@ enum yohrundel_decline {
     /* A plan's present minute, duration, count of windows, or a window's start or length is out of range. */
     YOHRUNDEL_DECLINE_HOURS = 15,
     /* A plan that no wait fits. */
-    YOHRUNDEL_DECLINE_NO_WAIT = 16
+    YOHRUNDEL_DECLINE_NO_WAIT = 16,
+    /* Byte lanes whose source and target differ in length, or have no multiple of 4 bytes. */
+    YOHRUNDEL_DECLINE_LANES = 22
 };
 
 /* The registers by their numbers. */
@@ -413,6 +415,19 @@ yohrundel_play_length_answer yohrundel_play_length(
  * Declines 15 and 16.
  */
 yohrundel_plan_answer yohrundel_plan(uint32_t minute, uint32_t duration, const uint32_t *windows, size_t count);
+
+/*
+ * ---- calls for byte lanes
+ *
+ * An image of n words is 4×n little-endian bytes. Stored in byte lanes it is all first bytes, then all second, third and fourth. Each call
+ * writes the whole target and answers a number of enum yohrundel_decline, which is 0 or 22.
+ */
+
+/* Stores an image in byte lanes. */
+uint32_t yohrundel_lanes_out(const uint8_t *source, size_t source_bytes, uint8_t *target, size_t target_bytes);
+
+/* Restores an image from its byte lanes. */
+uint32_t yohrundel_lanes_back(const uint8_t *source, size_t source_bytes, uint8_t *target, size_t target_bytes);
 
 #ifdef __cplusplus
 }

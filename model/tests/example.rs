@@ -138,6 +138,7 @@ fn calls() {
         String::from("page 1 1 1 64 4294967295 0 1"),
         format!("step 1 1 1 {RUNNING} {BANKS} 0 0 0"),
         String::from("plan 200 60 2 1500 240 9960 360"),
+        String::from("lanes_out 8 0 8 0 1 1 2 2 3 3 4 4 5 5 6 6 7 7 8 8 0 0"),
     ];
     let mut text = String::new();
     for case in &cases {

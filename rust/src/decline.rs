@@ -38,11 +38,13 @@ pub enum Decline {
     Hours = 15,
     /// No wait fits a plan.
     NoWait = 16,
+    /// Byte lanes whose source and target differ in length, or have no multiple of 4 bytes.
+    Lanes = 22,
 }
 
 impl Decline {
     /// All of them, in the order of their numbers.
-    pub const ALL: [Decline; 16] = [
+    pub const ALL: [Decline; 17] = [
         Decline::Geometry,
         Decline::Length,
         Decline::Device,
@@ -59,6 +61,7 @@ impl Decline {
         Decline::Script,
         Decline::Hours,
         Decline::NoWait,
+        Decline::Lanes,
     ];
 
     /// The paper's number.
@@ -84,6 +87,7 @@ impl Decline {
             Decline::Script => "the script is malformed",
             Decline::Hours => "a number of the plan is out of range",
             Decline::NoWait => "no wait fits",
+            Decline::Lanes => "the two lengths differ or are no multiple of 4",
         }
     }
 

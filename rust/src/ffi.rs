@@ -6,8 +6,10 @@
 
 #![allow(unsafe_code)]
 
+mod lanes;
 mod plan;
 
+pub(crate) use lanes::{lanes_back, lanes_out};
 pub(crate) use plan::plan;
 
 use crate::{Device, Geometry};

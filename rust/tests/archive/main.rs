@@ -5,6 +5,7 @@
 
 mod answers;
 mod bank_cases;
+mod byte_cases;
 mod calls;
 mod case;
 mod inputs;

@@ -50,6 +50,7 @@ fn numbers_of_the_declines() {
         Refusal::Script,
         Refusal::WeekRange,
         Refusal::NoWait,
+        Refusal::LaneLengths,
     ];
     assert_eq!(
         Decline::ALL.map(Decline::number),

@@ -10,7 +10,7 @@ use crate::case::check;
 use crate::settings::{cases, seed, Report};
 
 /// The calls of which cases are run.
-const CALLS: [Call; 1] = [Call::Plan];
+const CALLS: [Call; 3] = [Call::Plan, Call::LanesOut, Call::LanesBack];
 
 fn random_cases(seed: u64, most_words: u32) -> impl Iterator<Item = Case> {
     let cases = Cases::of_requests(seed, most_words);
