@@ -92,13 +92,18 @@ impl Decline {
     }
 
     /// What an answer's number says: 0 that the call is not declined.
+    #[inline]
     pub(crate) fn judge(number: u32) -> Result<(), Decline> {
-        if number == 0 {
-            return Ok(());
+        match number {
+            0 => Ok(()),
+            _ => Err(Decline::numbered(number)),
         }
+    }
+
+    fn numbered(number: u32) -> Decline {
         let mut all = Decline::ALL.into_iter();
         let decline = all.find(|decline| decline.number() == number);
-        Err(decline.expect("the library answers 0 or one of these numbers"))
+        decline.expect("the library answers 0 or one of these numbers")
     }
 }
 

@@ -310,6 +310,7 @@ pub(crate) fn update_start(
     unsafe { yohrundel_update_start(g, d, one, one_words, two, two_words, image, image_words) }
 }
 
+#[inline]
 pub(crate) fn turn(
     g: Geometry,
     d: Device,
@@ -341,6 +342,7 @@ pub(crate) fn turn(
     }
 }
 
+#[inline]
 pub(crate) fn turn_lent(
     g: Geometry,
     d: &mut Device,
