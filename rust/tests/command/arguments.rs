@@ -5,7 +5,7 @@ use std::os::unix::ffi::OsStrExt;
 
 use crate::run::{file, run};
 
-const COMMANDS: [&str; 3] = ["play", "update", "cut"];
+const COMMANDS: [&str; 5] = ["play", "update", "cut", "plan", "lanes"];
 
 #[test]
 fn help_names_every_command() {
@@ -98,6 +98,11 @@ fn arguments_that_are_not_understood() {
         wrong(&format!("cut 1 1 1 0 0 {mask}"), &reason);
     }
     wrong("cut 1 1 1 0 0 0 0", "\"0\" is one argument too many");
+    wrong("plan 0 1", "START:LENGTH is missing");
+    wrong("lanes", "the way is missing");
+    wrong("lanes forth -", "the way is \"forth\", not out or back");
+    wrong("lanes out", "FILE is missing");
+    wrong("lanes out - -", "\"-\" is one argument too many");
 }
 
 /// Arguments that are declined, with the status 1.

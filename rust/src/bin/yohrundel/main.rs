@@ -5,12 +5,15 @@ mod command;
 mod cut;
 mod failure;
 mod files;
+mod lanes;
 mod picture;
+mod plan;
 mod play;
 mod progress;
 mod protection;
 mod resets;
 mod sign;
+mod times;
 mod torn;
 mod update;
 mod wording;
@@ -24,7 +27,13 @@ use command::Command;
 use failure::{Answer, Failure};
 
 /// The commands in the order of the help. Each has a file of its own.
-const COMMANDS: &[Command] = &[play::COMMAND, update::COMMAND, cut::COMMAND];
+const COMMANDS: &[Command] = &[
+    play::COMMAND,
+    update::COMMAND,
+    cut::COMMAND,
+    plan::COMMAND,
+    lanes::COMMAND,
+];
 
 fn main() -> ExitCode {
     let arguments: Vec<OsString> = env::args_os().skip(1).collect();
