@@ -94,6 +94,27 @@ static void step_call(yohrundel_device d)
     printf("\n");
 }
 
+/* A window on Tuesday, and one from Sunday on past the end of the week, which is over at minute 240. */
+static void plan_call(void)
+{
+    static const uint32_t windows[] = {1500, 240, 9960, 360};
+    const yohrundel_plan_answer planned = yohrundel_plan(200, 60, windows, sizeof windows / sizeof windows[0]);
+    printf("plan %" PRIu32 " %" PRIu32 "\n", planned.decline, planned.wait);
+}
+
+/* Two words in byte lanes and back. */
+static void lanes_calls(void)
+{
+    const uint8_t image[8] = {1, 2, 3, 4, 5, 6, 7, 8};
+    uint8_t stored[8] = {0}, restored[8] = {0};
+    printf("lanes_out %" PRIu32 " 8", yohrundel_lanes_out(image, 8, stored, 8));
+    for (int i = 0; i < 8; i++)
+        printf(" %d %d", i, stored[i]);
+    printf("\n");
+    expect(yohrundel_lanes_back(stored, 8, restored, 8) == YOHRUNDEL_ACCEPTED, "the answer to the way back");
+    expect(memcmp(restored, image, sizeof image) == 0, "the image after the way back");
+}
+
 static void script_calls(yohrundel_device d)
 {
     const yohrundel_play_length_answer length =
@@ -118,6 +139,8 @@ int main(void)
     device_calls(d);
     reading_calls(d);
     step_call(d);
+    plan_call();
+    lanes_calls();
     script_calls(d);
     return EXIT_SUCCESS;
 }

@@ -1,7 +1,9 @@
 /*
  * Yohrundel: the Live Update flash controller and its bank updater, for programs in C and C++.
  *
- * Link libyohrundel.a, which `rt staticlib yohrundel` writes to target/staticlib/ for x86-64.
+ * Link libyohrundel.a, which `rt staticlib yohrundel` writes to target/staticlib/ for x86-64. One call, yohrundel_turn_lent, is in
+ * libyohrundel_lent.a beside it, which `rt staticlib yohrundel_lent` writes: there the compiler makes one function of the whole turn, as
+ * it does not among other calls, and that is faster.
  * "The paper" is document 01, Live Update flash: controller and bank updater.
  *
  * A call keeps nothing from one call to the next and allocates nothing: all that it works on is handed over by value or lent. Calls on
@@ -11,14 +13,14 @@
  *
  *   Every number, every length and every content of the lent memory is taken. A call does its work, or declines it by a number of
  *   enum yohrundel_decline, the lowest that applies. A declined call changes nothing: the device in its answer is the one handed over,
- *   the banks and the buffer keep their contents.
+ *   the banks, the buffer and the target keep their contents.
  *
  * Mistakes that no call can see
  *
  *   - a pointer that does not point to as many words or bytes as the count beside it says, or is not aligned for them;
  *     a null pointer goes with the count 0 only, and the device of yohrundel_turn_lent is never null;
- *   - lent memory that overlaps other lent memory where one of the two is written: the two banks, the device of yohrundel_turn_lent
- *     and the buffer of yohrundel_play are; where both are only read, they may overlap;
+ *   - lent memory that overlaps other lent memory where one of the two is written: the two banks, the device of yohrundel_turn_lent,
+ *     the buffer of yohrundel_play and the target of byte lanes are; where both are only read, they may overlap;
  *   - lent memory that another thread changes during the call.
  *
  * Sizes
@@ -90,7 +92,13 @@ enum yohrundel_decline {
      * A script whose length isn't a multiple of 8, or a record with an unknown kind, register, form or reset kind or an unused byte
      * not 0.
      */
-    YOHRUNDEL_DECLINE_SCRIPT = 14
+    YOHRUNDEL_DECLINE_SCRIPT = 14,
+    /* A plan's present minute, duration, count of windows, or a window's start or length is out of range. */
+    YOHRUNDEL_DECLINE_HOURS = 15,
+    /* A plan that no wait fits. */
+    YOHRUNDEL_DECLINE_NO_WAIT = 16,
+    /* Byte lanes whose source and target differ in length, or have no multiple of 4 bytes. */
+    YOHRUNDEL_DECLINE_LANES = 22
 };
 
 /* The registers by their numbers. */
@@ -263,6 +271,13 @@ typedef struct yohrundel_play_length_answer {
     size_t bytes;
 } yohrundel_play_length_answer;
 
+/* The answer to a plan. */
+typedef struct yohrundel_plan_answer {
+    uint32_t decline;
+    /* The smallest wait in minutes, 0 to 10,079; 0 where declined. */
+    uint32_t wait;
+} yohrundel_plan_answer;
+
 /*
  * ---- calls on a device alone
  *
@@ -350,7 +365,7 @@ yohrundel_turn_answer yohrundel_turn(
     const uint32_t *sram, size_t sram_words,
     uint32_t place);
 
-/* The same turn with the device lent and changed in place. */
+/* The same turn with the device lent and changed in place: the call of libyohrundel_lent.a. */
 yohrundel_turn_outcome yohrundel_turn_lent(
     yohrundel_geometry g, yohrundel_device *d,
     uint32_t *one, size_t one_words,
@@ -386,6 +401,33 @@ yohrundel_play_length_answer yohrundel_play_length(
     const uint32_t *two, size_t two_words,
     const uint32_t *sram, size_t sram_words,
     const uint8_t *script, size_t script_bytes);
+
+/*
+ * ---- the call for garage hours
+ *
+ * A week has minutes 0 to 10,079 from Monday 00:00. A window has a start minute and a length of 1 to 10,080 and may run past the end of
+ * the week. One of 10,080 holds every minute; a shorter one holds its first minute and not the one after its last.
+ */
+
+/*
+ * The smallest wait from the present minute on after which all minutes of a duration of 1 to 1,440, counted modulo 10,080, lie in the same
+ * window. The windows, 1 to 14, are lent as start, length, start, length, ..; count counts these numbers, and an odd count is out of range.
+ * Declines 15 and 16.
+ */
+yohrundel_plan_answer yohrundel_plan(uint32_t minute, uint32_t duration, const uint32_t *windows, size_t count);
+
+/*
+ * ---- calls for byte lanes
+ *
+ * An image of n words is 4×n little-endian bytes. Stored in byte lanes it is all first bytes, then all second, third and fourth. Each call
+ * writes the whole target and answers a number of enum yohrundel_decline, which is 0 or 22.
+ */
+
+/* Stores an image in byte lanes. */
+uint32_t yohrundel_lanes_out(const uint8_t *source, size_t source_bytes, uint8_t *target, size_t target_bytes);
+
+/* Restores an image from its byte lanes. */
+uint32_t yohrundel_lanes_back(const uint8_t *source, size_t source_bytes, uint8_t *target, size_t target_bytes);
 
 #ifdef __cplusplus
 }

@@ -137,6 +137,8 @@ fn calls() {
         format!("lower_bank 1 1 1 {IDLE} {BANKS}"),
         String::from("page 1 1 1 64 4294967295 0 1"),
         format!("step 1 1 1 {RUNNING} {BANKS} 0 0 0"),
+        String::from("plan 200 60 2 1500 240 9960 360"),
+        String::from("lanes_out 8 0 8 0 1 1 2 2 3 3 4 4 5 5 6 6 7 7 8 8 0 0"),
     ];
     let mut text = String::new();
     for case in &cases {

@@ -34,11 +34,17 @@ pub enum Decline {
     Place = 13,
     /// No script: a length that isn't a multiple of 8, an unknown record, or an unused byte that is not 0.
     Script = 14,
+    /// A number of a plan is out of its range.
+    Hours = 15,
+    /// No wait fits a plan.
+    NoWait = 16,
+    /// Byte lanes whose source and target differ in length, or have no multiple of 4 bytes.
+    Lanes = 22,
 }
 
 impl Decline {
-    /// All of them, by their numbers from 1.
-    pub const ALL: [Decline; 14] = [
+    /// All of them, in the order of their numbers.
+    pub const ALL: [Decline; 17] = [
         Decline::Geometry,
         Decline::Length,
         Decline::Device,
@@ -53,9 +59,12 @@ impl Decline {
         Decline::Protection,
         Decline::Place,
         Decline::Script,
+        Decline::Hours,
+        Decline::NoWait,
+        Decline::Lanes,
     ];
 
-    /// The paper's number, 1 to 14.
+    /// The paper's number.
     pub fn number(self) -> u32 {
         self as u32
     }
@@ -76,16 +85,25 @@ impl Decline {
             Decline::Protection => "the protection does not allow an update",
             Decline::Place => "the place exceeds the total",
             Decline::Script => "the script is malformed",
+            Decline::Hours => "a number of the plan is out of range",
+            Decline::NoWait => "no wait fits",
+            Decline::Lanes => "the two lengths differ or are no multiple of 4",
         }
     }
 
     /// What an answer's number says: 0 that the call is not declined.
+    #[inline]
     pub(crate) fn judge(number: u32) -> Result<(), Decline> {
-        if number == 0 {
-            return Ok(());
+        match number {
+            0 => Ok(()),
+            _ => Err(Decline::numbered(number)),
         }
-        // The library answers 0 to 14.
-        Err(Decline::ALL[number as usize - 1])
+    }
+
+    fn numbered(number: u32) -> Decline {
+        let mut all = Decline::ALL.into_iter();
+        let decline = all.find(|decline| decline.number() == number);
+        decline.expect("the library answers 0 or one of these numbers")
     }
 }
 

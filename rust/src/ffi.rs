@@ -1,10 +1,16 @@
-//! The archive's functions and their answers as `include/yohrundel.h` declares them, and the one place that calls them.
+//! The archives' functions and their answers as `include/yohrundel.h` declares them, and the one place that calls them.
 //!
 //! A slice is two arguments, a pointer and a count. The functions take every number, every length and every content. What they ask of a
 //! caller a borrow gives: each pointer is that of a slice of as many elements, which lives during the call, and what is written is
 //! borrowed by that call alone.
 
 #![allow(unsafe_code)]
+
+mod lanes;
+mod plan;
+
+pub(crate) use lanes::{lanes_back, lanes_out};
+pub(crate) use plan::plan;
 
 use crate::{Device, Geometry};
 
@@ -304,6 +310,7 @@ pub(crate) fn update_start(
     unsafe { yohrundel_update_start(g, d, one, one_words, two, two_words, image, image_words) }
 }
 
+#[inline]
 pub(crate) fn turn(
     g: Geometry,
     d: Device,
@@ -335,6 +342,7 @@ pub(crate) fn turn(
     }
 }
 
+#[inline]
 pub(crate) fn turn_lent(
     g: Geometry,
     d: &mut Device,

@@ -29,7 +29,9 @@ mod device;
 mod device_calls;
 mod ffi;
 mod geometry;
+mod lanes;
 mod numbers;
+mod plan;
 mod script_calls;
 mod update_calls;
 
@@ -38,6 +40,8 @@ pub use decline::Decline;
 pub use device::{Bank, Device};
 pub use device_calls::{register_read, start_up, store, RegisterRead, Stored};
 pub use geometry::Geometry;
+pub use lanes::{lanes_back, lanes_out};
 pub use numbers::{form, nvmcon, register, reset_kind};
+pub use plan::plan;
 pub use script_calls::{play, play_length, Played};
 pub use update_calls::{turn, turn_lent, update_start, Started, TurnOutcome, Turned};

@@ -48,6 +48,7 @@ pub fn update_start(
 }
 
 /// One turn: the action of its place, one store or one step.
+#[inline]
 pub fn turn(
     geometry: Geometry,
     device: Device,
@@ -65,6 +66,7 @@ pub fn turn(
 }
 
 /// The same turn with the device lent and changed in place.
+#[inline]
 pub fn turn_lent(
     geometry: Geometry,
     device: &mut Device,
@@ -79,6 +81,7 @@ pub fn turn_lent(
     ))
 }
 
+#[inline]
 fn outcome(answer: ffi::TurnOutcome) -> Result<TurnOutcome, Decline> {
     Decline::judge(answer.decline)?;
     Ok(TurnOutcome {

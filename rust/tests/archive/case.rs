@@ -8,6 +8,7 @@ use yohrundel::*;
 
 use crate::answers::{device_and_event, device_numbers, text, Answer};
 use crate::bank_cases::{play_case, reset_case, step_case, turn_case};
+use crate::byte_cases::lanes_case;
 use crate::inputs::Inputs;
 use crate::rules::{compare, possible, protected};
 
@@ -45,6 +46,9 @@ fn call(name: &str, inputs: &mut Inputs) -> String {
         "turn" => turn_case(inputs),
         "play" => play_case(inputs),
         "play_length" => text(&play_length_case(inputs)),
+        "plan" => text(&plan_case(inputs)),
+        "lanes_out" => lanes_case(inputs, lanes_out),
+        "lanes_back" => lanes_case(inputs, lanes_back),
         _ => panic!("no case of a call: {name}"),
     }
 }
@@ -104,4 +108,10 @@ fn play_length_case(inputs: &mut Inputs) -> Answer {
     let (one, two, sram) = (inputs.list(), inputs.list(), inputs.list());
     let bytes = play_length(sign, device, &one, &two, &sram, &inputs.bytes())?;
     Ok(vec![bytes as u64])
+}
+
+fn plan_case(inputs: &mut Inputs) -> Answer {
+    let (minute, duration) = (inputs.number(), inputs.number());
+    let wait = plan(minute, duration, &inputs.pairs())?;
+    Ok(vec![wait.into()])
 }

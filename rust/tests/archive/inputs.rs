@@ -58,6 +58,12 @@ impl<'a> Inputs<'a> {
         words
     }
 
+    /// "n, then n pairs", without the n.
+    pub fn pairs(&mut self) -> Vec<u32> {
+        let count = 2 * self.number();
+        (0..count).map(|_| self.number()).collect()
+    }
+
     pub fn bytes(&mut self) -> Vec<u8> {
         let words = self.list();
         words.iter().map(|word| *word as u8).collect()

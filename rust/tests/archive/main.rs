@@ -1,16 +1,18 @@
-//! The archive beside the outside model.
+//! The archives beside the outside model.
 //!
-//! Every difference fails the test with the case's line, in the form of the model's cases, and what the archive gave for it. The seed and
+//! Every difference fails the test with the case's line, in the form of the model's cases, and what the archives gave for it. The seed and
 //! the count of cases are printed; YOHRUNDEL_SEED and YOHRUNDEL_CASES set them.
 
 mod answers;
 mod bank_cases;
+mod byte_cases;
 mod calls;
 mod case;
 mod inputs;
 mod lent;
 mod names;
 mod play_cases;
+mod requests;
 mod rules;
 mod scripts;
 mod settings;

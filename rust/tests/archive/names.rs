@@ -48,6 +48,9 @@ fn numbers_of_the_declines() {
         Refusal::Protection,
         Refusal::Place,
         Refusal::Script,
+        Refusal::WeekRange,
+        Refusal::NoWait,
+        Refusal::LaneLengths,
     ];
     assert_eq!(
         Decline::ALL.map(Decline::number),

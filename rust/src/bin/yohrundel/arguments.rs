@@ -1,0 +1,94 @@
+//! The arguments of a command, taken one after another.
+
+use std::ffi::{OsStr, OsString};
+use std::slice::Iter;
+
+use yohrundel::Geometry;
+
+use crate::failure::Failure;
+
+pub struct Arguments<'a> {
+    rest: Iter<'a, OsString>,
+}
+
+impl<'a> Arguments<'a> {
+    pub fn new(arguments: &'a [OsString]) -> Arguments<'a> {
+        let rest = arguments.iter();
+        Arguments { rest }
+    }
+
+    /// The next argument, none at the end. One that begins with a hyphen is an option that there is not, but for `-` alone.
+    pub fn optional(&mut self) -> Result<Option<&'a OsStr>, Failure> {
+        let Some(argument) = self.rest.next() else {
+            return Ok(None);
+        };
+        let bytes = argument.as_encoded_bytes();
+        if bytes.starts_with(b"-") && bytes != b"-" {
+            let reason = format!("there is no option {argument:?}");
+            return Err(Failure::arguments(reason));
+        }
+        Ok(Some(argument))
+    }
+
+    pub fn required(&mut self, name: &str) -> Result<&'a OsStr, Failure> {
+        let missing = || Failure::arguments(format!("{name} is missing"));
+        self.optional()?.ok_or_else(missing)
+    }
+
+    /// The next argument as text in a form, which the words name.
+    pub fn form<T>(
+        &mut self,
+        name: &str,
+        words: &str,
+        read: fn(&str) -> Option<T>,
+    ) -> Result<T, Failure> {
+        formed(self.required(name)?, name, words, read)
+    }
+
+    pub fn number(&mut self, name: &str) -> Result<u32, Failure> {
+        self.form(name, "a number from 0 to 4294967295", |text| {
+            text.parse().ok()
+        })
+    }
+
+    /// Q, B and P, which the library judges.
+    pub fn geometry(&mut self) -> Result<Geometry, Failure> {
+        let geometry = Geometry {
+            q: self.number("Q")?,
+            b: self.number("B")?,
+            p: self.number("P")?,
+        };
+        Ok(geometry)
+    }
+
+    /// There are no more arguments.
+    pub fn end(&mut self) -> Result<(), Failure> {
+        match self.optional()? {
+            Some(argument) => {
+                let reason = format!("{argument:?} is one argument too many");
+                Err(Failure::arguments(reason))
+            }
+            None => Ok(()),
+        }
+    }
+}
+
+/// An argument as text in a form, which the words name.
+pub fn formed<T>(
+    argument: &OsStr,
+    name: &str,
+    words: &str,
+    read: fn(&str) -> Option<T>,
+) -> Result<T, Failure> {
+    let wrong = || Failure::arguments(format!("{name} is {argument:?}, not {words}"));
+    argument.to_str().and_then(read).ok_or_else(wrong)
+}
+
+/// A word in one to eight hexadecimal digits, 0x before them or not.
+pub fn hexadecimal(text: &str) -> Option<u32> {
+    let digits = text.strip_prefix("0x").unwrap_or(text);
+    if !digits.bytes().all(|digit| digit.is_ascii_hexdigit()) {
+        return None;
+    }
+    u32::from_str_radix(digits, 16).ok()
+}

@@ -1,0 +1,66 @@
+//! How a command fails: a line on standard error and a status.
+
+use std::ffi::OsStr;
+use std::fmt::Display;
+use std::io;
+
+use yohrundel::Decline;
+
+/// The work is declined, by one of the paper's numbers.
+pub const DECLINED: u8 = 1;
+
+/// The arguments are not understood.
+pub const ARGUMENTS: u8 = 2;
+
+/// A file cannot be read, or the output cannot be written.
+pub const FILES: u8 = 3;
+
+pub struct Failure {
+    /// What is printed all the same.
+    pub output: Vec<u8>,
+    /// One line.
+    pub reason: String,
+    pub status: u8,
+}
+
+/// What a command prints.
+pub type Answer = Result<Vec<u8>, Failure>;
+
+impl Failure {
+    fn new(status: u8, reason: String) -> Failure {
+        let output = Vec::new();
+        Failure {
+            output,
+            reason,
+            status,
+        }
+    }
+
+    pub fn arguments(reason: impl Into<String>) -> Failure {
+        Failure::new(ARGUMENTS, reason.into())
+    }
+
+    pub fn file(path: &OsStr, error: io::Error) -> Failure {
+        Failure::new(FILES, format!("{path:?} cannot be read: {error}"))
+    }
+
+    pub fn output(error: io::Error) -> Failure {
+        Failure::new(FILES, format!("the output cannot be written: {error}"))
+    }
+
+    /// A decline with what the caller knows of its cause.
+    pub fn declined(decline: Decline, cause: impl Display) -> Failure {
+        Failure::new(DECLINED, format!("{}: {cause}", declined(decline)))
+    }
+}
+
+impl From<Decline> for Failure {
+    fn from(decline: Decline) -> Failure {
+        Failure::new(DECLINED, declined(decline))
+    }
+}
+
+/// A decline in words.
+pub fn declined(decline: Decline) -> String {
+    format!("declined by {}: {decline}", decline.number())
+}

@@ -1,0 +1,46 @@
+//! Files as bytes and as words.
+
+use std::ffi::OsStr;
+use std::fs::File;
+use std::io::{self, Read};
+
+use yohrundel::{Decline, Geometry};
+
+use crate::failure::Failure;
+
+/// The bytes of a file, of standard input where its name is `-`; at most so many from its front.
+pub fn bytes(path: &OsStr, most: usize) -> Result<Vec<u8>, Failure> {
+    read(path, most as u64).map_err(|error| Failure::file(path, error))
+}
+
+fn read(path: &OsStr, most: u64) -> io::Result<Vec<u8>> {
+    let mut bytes = Vec::new();
+    if path == "-" {
+        io::stdin().lock().take(most).read_to_end(&mut bytes)?;
+    } else {
+        File::open(path)?.take(most).read_to_end(&mut bytes)?;
+    }
+    Ok(bytes)
+}
+
+/// A bank or an image: a file of words, lowest byte first, exactly one bank long.
+pub fn bank(geometry: Geometry, path: &OsStr) -> Result<Vec<u32>, Failure> {
+    let length = 4 * geometry.bank_words()?;
+    let bytes = bytes(path, length + 1)?;
+    if bytes.len() != length {
+        let cause = format!("{path:?} does not have the {length} bytes of a bank");
+        return Err(Failure::declined(Decline::Length, cause));
+    }
+    Ok(words(&bytes))
+}
+
+fn words(bytes: &[u8]) -> Vec<u32> {
+    let word = |four: &[u8]| u32::from_le_bytes([four[0], four[1], four[2], four[3]]);
+    bytes.chunks_exact(4).map(word).collect()
+}
+
+#[cfg(test)]
+#[test]
+fn lowest_byte_first() {
+    assert_eq!(words(&[1, 2, 3, 4, 5, 6, 7, 8]), [0x0403_0201, 0x0807_0605]);
+}

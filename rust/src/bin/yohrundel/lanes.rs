@@ -1,0 +1,41 @@
+//! `yohrundel lanes`: an image in byte lanes, and back.
+
+use yohrundel::{lanes_back, lanes_out, Decline};
+
+use crate::arguments::Arguments;
+use crate::command::Command;
+use crate::failure::{Answer, Failure};
+use crate::files;
+
+pub const COMMAND: Command = Command {
+    name: "lanes",
+    arguments: "out|back FILE",
+    summary: "stores an image in byte lanes, and back",
+    details: "\
+FILE is an image of words, lowest byte first, of any length; - is standard
+input. Out writes all first bytes of its words to standard output, then all
+second, third and fourth. Back restores the image from them. A file whose length
+is no multiple of 4 is declined.",
+    run,
+};
+
+/// One of the two ways.
+type Way = fn(&[u8], &mut [u8]) -> Result<(), Decline>;
+
+fn run(mut arguments: Arguments) -> Answer {
+    let way: Way = arguments.form("the way", "out or back", |text| match text {
+        "out" => Some(lanes_out as Way),
+        "back" => Some(lanes_back),
+        _ => None,
+    })?;
+    let path = arguments.required("FILE")?;
+    arguments.end()?;
+    let source = files::bytes(path, usize::MAX)?;
+    let mut target = vec![0; source.len()];
+    let declined = |decline| {
+        let length = source.len();
+        Failure::declined(decline, format_args!("{path:?} has {length} bytes"))
+    };
+    way(&source, &mut target).map_err(declined)?;
+    Ok(target)
+}

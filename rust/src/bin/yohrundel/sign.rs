@@ -1,0 +1,116 @@
+//! A sign that is updated.
+
+use yohrundel::reset_kind::POWER_ON;
+use yohrundel::{
+    reset, start_up, turn_lent, update_start, Bank, Decline, Device, Geometry, TurnOutcome,
+};
+
+use crate::progress::Progress;
+
+/// T = 1 and what the update makes of it.
+const OLD_QUAD: [u32; 4] = [0xFFFE_0001, !0, !0, !0];
+pub const NEW_QUAD: [u32; 4] = [0xFFFD_0002, !0, !0, !0];
+
+pub struct Sign {
+    pub geometry: Geometry,
+    pub device: Device,
+    pub banks: [Vec<u32>; 2],
+    /// The banks before the update.
+    old: [Vec<u32>; 2],
+    /// The image with the new sequence quad.
+    pub new: Vec<u32>,
+    image: Vec<u32>,
+}
+
+impl Sign {
+    /// A sign after power-on and start-up: bank 1 runs with T = 1, bank 2 is erased. The image is one bank long.
+    pub fn fresh(geometry: Geometry, image: Vec<u32>) -> Result<Sign, Decline> {
+        let one = with_quad(geometry, &made_up(geometry, 1)?, OLD_QUAD)?;
+        let banks = [one, vec![!0; geometry.bank_words()?]];
+        let mut sign = Sign {
+            geometry,
+            device: Device::power_on(),
+            old: banks.clone(),
+            banks,
+            new: with_quad(geometry, &image, NEW_QUAD)?,
+            image,
+        };
+        sign.restart(POWER_ON, [0; 4])?;
+        Ok(sign)
+    }
+
+    pub fn bank(&self, bank: Bank) -> &[u32] {
+        &self.banks[index(bank)]
+    }
+
+    /// A bank as it was before the update.
+    pub fn old_bank(&self, bank: Bank) -> &[u32] {
+        &self.old[index(bank)]
+    }
+
+    /// A reset and a start-up.
+    pub fn restart(&mut self, kind: u32, mask: [u32; 4]) -> Result<(), Decline> {
+        let [one, two] = &mut self.banks;
+        let device = reset(self.geometry, self.device, one, two, &[], kind, mask)?;
+        self.device = start_up(self.geometry, device)?;
+        Ok(())
+    }
+
+    /// The total of the update's actions, where it is accepted.
+    pub fn start(&self) -> Result<u32, Decline> {
+        let [one, two] = &self.banks;
+        Ok(update_start(self.geometry, self.device, one, two, &self.image)?.total)
+    }
+
+    fn turn(&mut self, place: u32) -> Result<TurnOutcome, Decline> {
+        let (geometry, device, image) = (self.geometry, &mut self.device, &self.image);
+        let [one, two] = &mut self.banks;
+        turn_lent(geometry, device, one, two, image, &[], place)
+    }
+
+    /// Turns from place 0 up to a place, which is at most the total.
+    pub fn turn_until(&mut self, last: u32, progress: &mut Progress) -> Result<(), Decline> {
+        let mut place = 0;
+        while place < last {
+            place = self.turn(place)?.place;
+            progress.show(place, last);
+        }
+        Ok(())
+    }
+
+    /// Turns from place 0 until one says done; gives how many came before it.
+    pub fn turn_until_done(&mut self, total: u32, progress: &mut Progress) -> Result<u32, Decline> {
+        let (mut place, mut turns) = (0, 0);
+        loop {
+            let outcome = self.turn(place)?;
+            if outcome.done {
+                return Ok(turns);
+            }
+            (place, turns) = (outcome.place, turns + 1);
+            progress.show(place, total);
+        }
+    }
+}
+
+fn index(bank: Bank) -> usize {
+    bank.number() as usize - 1
+}
+
+/// Made-up words of a bank, none of them blank: the number in the high byte, the word's index below it.
+fn made_up(geometry: Geometry, number: u32) -> Result<Vec<u32>, Decline> {
+    let words = geometry.bank_words()? as u32;
+    Ok((0..words).map(|index| (number << 24) + index).collect())
+}
+
+/// An image where no file gives one.
+pub fn made_up_image(geometry: Geometry) -> Result<Vec<u32>, Decline> {
+    made_up(geometry, 2)
+}
+
+/// A bank with another sequence quad.
+fn with_quad(geometry: Geometry, bank: &[u32], quad: [u32; 4]) -> Result<Vec<u32>, Decline> {
+    let first = geometry.sequence_index()?;
+    let mut words = bank.to_vec();
+    words[first..first + 4].copy_from_slice(&quad);
+    Ok(words)
+}

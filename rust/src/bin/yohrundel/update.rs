@@ -1,0 +1,51 @@
+//! `yohrundel update`: a whole update of a fresh sign.
+
+use yohrundel::Decline;
+
+use crate::arguments::Arguments;
+use crate::command::Command;
+use crate::failure::Answer;
+use crate::files;
+use crate::picture::{legend, picture};
+use crate::progress::Progress;
+use crate::sign::{made_up_image, Sign};
+use crate::wording::{runs, whole_update};
+
+pub const COMMAND: Command = Command {
+    name: "update",
+    arguments: "Q B P [IMAGE]",
+    summary: "runs a whole update of a sign",
+    details: "\
+The sign has Q quads per row (1, 2, 4, 8, 16, 32, 64 or 128), B boot pages (1 to
+5) and P program pages (1 to 64) a bank. Its bank 1 runs with the sequence
+number 1, bank 2 is erased.
+IMAGE is a file of words, lowest byte first, exactly one bank long: (B + P) x
+128 x Q bytes; - is standard input. Without it the image is made up.
+It prints the update's total and turns, which bank runs before and after it,
+whether the old bank kept every word and the new one is the image, and a picture
+of both banks before and after.",
+    run,
+};
+
+fn run(mut arguments: Arguments) -> Answer {
+    let mut progress = Progress::new();
+    let geometry = arguments.geometry()?;
+    let path = arguments.optional()?;
+    arguments.end()?;
+    let image = match path {
+        Some(path) => files::bank(geometry, path)?,
+        None => made_up_image(geometry)?,
+    };
+    let mut sign = Sign::fresh(geometry, image)?;
+    let (report, legend) = (report(&mut sign, &mut progress)?, legend());
+    Ok(format!("{report}\n{legend}").into())
+}
+
+fn report(sign: &mut Sign, progress: &mut Progress) -> Result<String, Decline> {
+    let (runs, before) = (runs(sign), picture(sign)?);
+    let total = sign.start()?;
+    let update = whole_update(sign, total, progress)?;
+    Ok(format!(
+        "Before the update {runs}.\n\n{before}\nThe update is accepted. {update}"
+    ))
+}

@@ -1,0 +1,50 @@
+//! What both an update and a cut say.
+
+use yohrundel::reset_kind::POWER_ON;
+use yohrundel::{Bank, Decline};
+
+use crate::picture::picture;
+use crate::progress::Progress;
+use crate::sign::{Sign, NEW_QUAD};
+
+/// The bank that runs, as the rest of a sentence.
+pub fn runs(sign: &Sign) -> String {
+    match sign.device.running_bank() {
+        Some(bank) => format!("bank {} runs", bank.number()),
+        None => String::from("no bank runs"),
+    }
+}
+
+/// A quad in hexadecimal words.
+pub fn quad(words: &[u32]) -> String {
+    let words: Vec<String> = words.iter().map(|word| format!("{word:08X}")).collect();
+    words.join(" ")
+}
+
+/// Does the whole update from an accepted start on, and says how it ends.
+pub fn whole_update(
+    sign: &mut Sign,
+    total: u32,
+    progress: &mut Progress,
+) -> Result<String, Decline> {
+    let turns = sign.turn_until_done(total, progress)?;
+    sign.restart(POWER_ON, [0; 4])?;
+    let (runs, picture, ending) = (runs(sign), picture(sign)?, ending(sign));
+    Ok(format!(
+        "It has {total} actions and is done after {turns} turns.\n\
+         After a power-on reset and start-up {runs}.\n\n{picture}\n{ending}"
+    ))
+}
+
+/// What became of both banks.
+pub fn ending(sign: &Sign) -> String {
+    let kept = sign.bank(Bank::One) == sign.old_bank(Bank::One);
+    let kept = if kept { "kept" } else { "did not keep" };
+    let exact = sign.bank(Bank::Two) == sign.new;
+    let exact = if exact { "is" } else { "is not" };
+    let quad = quad(&NEW_QUAD);
+    format!(
+        "Bank 1 {kept} every word.\n\
+         Bank 2 {exact} the image with the new sequence quad\n{quad}.\n"
+    )
+}

@@ -1,0 +1,153 @@
+//! Help, version, and arguments that are not understood or declined.
+
+use std::ffi::OsStr;
+use std::os::unix::ffi::OsStrExt;
+
+use crate::run::{file, run};
+
+const COMMANDS: [&str; 5] = ["play", "update", "cut", "plan", "lanes"];
+
+#[test]
+fn help_names_every_command() {
+    let help = run(&["--help"]).printed();
+    let named: Vec<&str> = help
+        .lines()
+        .filter_map(|line| line.strip_prefix("  "))
+        .filter_map(|line| line.split(' ').next())
+        .collect();
+    assert_eq!(named, COMMANDS);
+    assert_eq!(run(&["-h"]).printed(), help);
+}
+
+#[test]
+fn help_of_each_command() {
+    let all = run(&["--help"]).printed();
+    for command in COMMANDS {
+        let help = run(&[command, "--help"]).printed();
+        let first = help.lines().next().unwrap_or("");
+        let usage = first.strip_prefix("usage: yohrundel ").expect("its usage");
+        assert!(usage.starts_with(&format!("{command} ")));
+        assert!(all.contains(&format!("\n  {usage}  ")), "{usage}");
+        assert_eq!(run(&[command, "x", "-h"]).printed(), help);
+    }
+}
+
+#[test]
+fn help_has_at_most_80_columns() {
+    let of_each = COMMANDS.map(|command| run(&[command, "--help"]));
+    for help in of_each.into_iter().chain([run(&["--help"])]) {
+        let help = help.printed();
+        assert!(help.lines().all(|line| line.len() <= 80), "{help}");
+    }
+}
+
+#[test]
+fn version() {
+    let expected = format!("yohrundel {}\n", env!("CARGO_PKG_VERSION"));
+    assert_eq!(run(&["--version"]).printed(), expected);
+    assert_eq!(run(&["-V"]).printed(), expected);
+}
+
+#[test]
+fn no_such_command() {
+    let none: [&str; 0] = [];
+    let reason = "COMMAND is missing; try yohrundel --help";
+    assert_eq!(run(&none).reason(2), reason);
+    let reason = "there is no command \"paly\"; try yohrundel --help";
+    assert_eq!(run(&["paly"]).reason(2), reason);
+    let reason = "there is no command \"\\xFF\"; try yohrundel --help";
+    assert_eq!(run(&[OsStr::from_bytes(b"\xFF")]).reason(2), reason);
+}
+
+/// Arguments of a command that get a reason and the status 2.
+fn wrong(arguments: &str, reason: &str) {
+    let arguments: Vec<&str> = arguments.split(' ').collect();
+    let command = arguments[0];
+    let expected = format!("{command}: {reason}; try yohrundel {command} --help");
+    assert_eq!(run(&arguments).reason(2), expected);
+}
+
+#[test]
+fn arguments_that_are_not_understood() {
+    wrong("play", "FILE is missing");
+    wrong("play a b", "\"b\" is one argument too many");
+    wrong("play --fast", "there is no option \"--fast\"");
+    wrong("update 1 1", "P is missing");
+    wrong(
+        "update 1 x 1",
+        "B is \"x\", not a number from 0 to 4294967295",
+    );
+    let number = "\"4294967296\", not a number from 0 to 4294967295";
+    wrong("update 4294967296 1 1", &format!("Q is {number}"));
+    wrong("update 1 1 1 - -", "\"-\" is one argument too many");
+    wrong("cut 1 1 1", "PLACE is missing");
+    wrong("cut 1 1 1 0", "KIND is missing");
+    let kinds = "power-on, brown-out or other, or 0, 1 or 2";
+    wrong("cut 1 1 1 0 3", &format!("KIND is \"3\", not {kinds}"));
+    for mask in [
+        "",
+        "0x",
+        "g",
+        "+1",
+        "100000000",
+        "1,2",
+        "1,2,3,4,5",
+        "1,,2,3",
+    ] {
+        let reason = format!("MASK is {mask:?}, not one or four hexadecimal words");
+        wrong(&format!("cut 1 1 1 0 0 {mask}"), &reason);
+    }
+    wrong("cut 1 1 1 0 0 0 0", "\"0\" is one argument too many");
+    wrong("plan 0 1", "START:LENGTH is missing");
+    wrong("lanes", "the way is missing");
+    wrong("lanes forth -", "the way is \"forth\", not out or back");
+    wrong("lanes out", "FILE is missing");
+    wrong("lanes out - -", "\"-\" is one argument too many");
+}
+
+/// Arguments that are declined, with the status 1.
+fn declined(arguments: &str, reason: &str) {
+    let arguments: Vec<&str> = arguments.split(' ').collect();
+    let expected = format!("{}: declined by {reason}", arguments[0]);
+    assert_eq!(run(&arguments).reason(1), expected);
+}
+
+#[test]
+fn declined_arguments() {
+    let reason = "1: the quads per row, boot pages or program pages are out of range";
+    for geometry in [
+        "0 1 1", "3 1 1", "256 1 1", "1 0 1", "1 6 1", "1 1 0", "1 1 65",
+    ] {
+        declined(&format!("update {geometry}"), reason);
+        declined(&format!("cut {geometry} 0 0"), reason);
+    }
+    let reason = "13: the place exceeds the total: PLACE is 253, the total 252";
+    declined("cut 1 1 1 253 0", reason);
+}
+
+#[test]
+fn images_of_a_wrong_length() {
+    for length in [0, 252, 255, 257, 260] {
+        let path = file(&format!("image-of-{length}-bytes"), &vec![0; length]);
+        let path = path.to_str().expect("a name in UTF-8");
+        let reason = "2: a bank, the image or the SRAM has a wrong length";
+        let cause = format!("{path:?} does not have the 256 bytes of a bank");
+        declined(
+            &format!("update 1 1 1 {path}"),
+            &format!("{reason}: {cause}"),
+        );
+    }
+}
+
+#[test]
+fn files_that_cannot_be_read() {
+    for (path, error) in [
+        ("/no/such/file", "No such file or directory (os error 2)"),
+        ("/", "Is a directory (os error 21)"),
+    ] {
+        let reason = format!("{path:?} cannot be read: {error}");
+        assert_eq!(run(&["play", path]).reason(3), format!("play: {reason}"));
+        let reason = format!("update: {reason}");
+        assert_eq!(run(&["update", "1", "1", "1", path]).reason(3), reason);
+    }
+}

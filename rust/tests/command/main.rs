@@ -1,0 +1,11 @@
+//! The command `yohrundel`, run as a program. What it must print is computed by the outside model.
+
+mod arguments;
+mod lanes;
+mod outside;
+mod pipes;
+mod plan;
+mod play;
+mod readme;
+mod run;
+mod updates;

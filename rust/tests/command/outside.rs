@@ -1,0 +1,146 @@
+//! A sign in the outside model, and its picture.
+
+use model::device::{protected, Device};
+use model::flash::reset;
+use model::geometry::{Bank, Banks, Geometry, Kind, Side};
+use model::sequence::new_quad;
+use model::store::start_up;
+use model::update::{turn, update_start};
+use model::Answer;
+
+pub const LEGEND: &str = "o old   . blank   ~ partly written   n new   ^ protected   * runs\n";
+
+#[derive(Clone)]
+pub struct Sign {
+    numbers: [u32; 3],
+    pub geometry: Geometry,
+    pub device: Device,
+    pub banks: [Vec<u32>; 2],
+    /// Bank 1 before the update, and what bank 2 must come to.
+    pub old: Vec<u32>,
+    pub new: Vec<u32>,
+    image: Vec<u32>,
+}
+
+/// Words of a bank that no file gives.
+fn made_up(geometry: &Geometry, first: u32) -> Vec<u32> {
+    (first..first + geometry.bank_words()).collect()
+}
+
+fn with_sequence(geometry: &Geometry, mut bank: Vec<u32>, low: u16) -> Vec<u32> {
+    let first = geometry.sequence_index();
+    bank[first..first + 4].copy_from_slice(&new_quad(low - 1));
+    bank
+}
+
+impl Sign {
+    /// "bank 1 runs with the sequence number 1, bank 2 is erased"
+    pub fn fresh(numbers: [u32; 3], image: Option<Vec<u32>>) -> Sign {
+        let geometry = Geometry::new(numbers).expect("a sign");
+        let image = image.unwrap_or_else(|| made_up(&geometry, 0x0200_0000));
+        let old = with_sequence(&geometry, made_up(&geometry, 0x0100_0000), 1);
+        let mut sign = Sign {
+            numbers,
+            geometry,
+            device: Device::reset_values(),
+            banks: [old.clone(), vec![!0; old.len()]],
+            old,
+            new: with_sequence(&geometry, image.clone(), 2),
+            image,
+        };
+        assert_eq!(sign.restart(0, [0; 4]), Bank::One);
+        sign
+    }
+
+    /// A reset and a start-up; the bank that runs.
+    pub fn restart(&mut self, kind: u32, mask: [u32; 4]) -> Bank {
+        let [one, two] = &mut self.banks;
+        let mut banks = Banks { one, two };
+        let device = reset(self.numbers, self.device, &mut banks, &[], kind, mask);
+        let device = start_up(self.numbers, device.expect("a reset"));
+        self.device = device.expect("a start-up");
+        self.runs().expect("a bank that runs")
+    }
+
+    /// "the bank that BFSWAP and PFSWAP both put lower"
+    fn runs(&self) -> Option<Bank> {
+        let boot = self.device.bank_at(Kind::Boot, Side::Lower);
+        let program = self.device.bank_at(Kind::Program, Side::Lower);
+        (boot == program).then_some(boot)
+    }
+
+    /// The total, where the update is accepted.
+    pub fn start(&self) -> Answer<u32> {
+        let [mut one, mut two] = self.banks.clone();
+        let (one, two) = (&mut one, &mut two);
+        let banks = Banks { one, two };
+        let (_, total) = update_start(self.numbers, &self.device, &banks, &self.image)?;
+        Ok(total)
+    }
+
+    /// Turns up to a place, from another.
+    pub fn turns(&mut self, from: u32, to: u32) {
+        let [one, two] = &mut self.banks;
+        let mut banks = Banks { one, two };
+        for place in from..to {
+            let (numbers, device) = (self.numbers, self.device);
+            let turned = turn(numbers, device, &mut banks, &self.image, &[], place);
+            self.device = turned.expect("a turn").device;
+        }
+    }
+
+    pub fn picture(&self) -> String {
+        let mut text = String::from("        boot  program\n");
+        for bank in [Bank::One, Bank::Two] {
+            let runs = if self.runs() == Some(bank) { '*' } else { ' ' };
+            let label = format!("bank {}{runs} ", bank.number());
+            text += &self.row(&label, |kind, page| self.contents(bank, kind, page));
+            let marks = self.row(&" ".repeat(8), |kind, page| self.mark(bank, kind, page));
+            if marks != "\n" {
+                text += &marks;
+            }
+        }
+        text
+    }
+
+    fn row(&self, label: &str, character: impl Fn(Kind, u32) -> char) -> String {
+        let mut row = String::from(label);
+        row.extend((0..self.geometry.boot_pages).map(|page| character(Kind::Boot, page)));
+        row += &" ".repeat(14 - row.len());
+        row.extend((0..self.geometry.program_pages).map(|page| character(Kind::Program, page)));
+        row.truncate(row.trim_end().len());
+        row + "\n"
+    }
+
+    fn contents(&self, bank: Bank, kind: Kind, page: u32) -> char {
+        let number = match kind {
+            Kind::Boot => page,
+            Kind::Program => self.geometry.boot_pages + page,
+        };
+        let words = self.geometry.page_words();
+        let range = (number * words) as usize..((number + 1) * words) as usize;
+        let (old, is) = match bank {
+            Bank::One => (
+                Some(&self.old[range.clone()]),
+                &self.banks[0][range.clone()],
+            ),
+            Bank::Two => (None, &self.banks[1][range.clone()]),
+        };
+        match is {
+            blank if blank.iter().all(|word| *word == 0xFFFF_FFFF) => '.',
+            whole if Some(whole) == old => 'o',
+            whole if whole == &self.new[range] => 'n',
+            _ => '~',
+        }
+    }
+
+    fn mark(&self, bank: Bank, kind: Kind, page: u32) -> char {
+        let lower = self.device.bank_at(kind, Side::Lower) == bank;
+        let side = if lower { Side::Lower } else { Side::Upper };
+        if protected(&self.geometry, &self.device, kind, side, page) {
+            '^'
+        } else {
+            ' '
+        }
+    }
+}

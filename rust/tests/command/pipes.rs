@@ -1,0 +1,55 @@
+//! Outputs that are pipes, closed pipes or full.
+
+use std::fs::File;
+use std::process::{Command, Stdio};
+use std::thread::sleep;
+use std::time::Duration;
+
+use crate::run::{finish, run, spawn, Ran, PROGRAM};
+
+/// A reader that is gone gets nothing, and the command says nothing.
+#[test]
+fn closed_pipe() {
+    let mut child = spawn(&["play", "-"]);
+    drop(child.stdout.take());
+    assert_eq!(finish(child, &[0; 8]).printed(), "");
+}
+
+/// What is declined stays declined.
+#[test]
+fn closed_pipe_of_a_declined_script() {
+    let mut child = spawn(&["play", "-"]);
+    drop(child.stdout.take());
+    let reason = "play: declined by 14: the script is malformed: record 0";
+    assert_eq!(finish(child, b"no").reason(1), reason);
+}
+
+#[test]
+fn output_that_cannot_be_written() {
+    let mut command = Command::new(PROGRAM);
+    let full = File::create("/dev/full").expect("the full device");
+    command.arg("--help").stdout(Stdio::from(full));
+    let ran = Ran::new(command.output().expect("the command is run"));
+    let reason = "the output cannot be written: No space left on device (os error 28)";
+    assert_eq!(ran.reason(3), reason);
+}
+
+/// The largest sign's image comes more than a second late, from when on a terminal would get a bar.
+#[test]
+fn no_bar_in_a_pipe() {
+    let child = spawn(&["update", "128", "5", "64", "-"]);
+    sleep(Duration::from_millis(1200));
+    let ran = finish(child, &vec![7; 69 * 128 * 128]);
+    let printed = ran.printed();
+    assert!(printed.contains("done after 989748 turns"));
+    assert!(!printed.contains('\r'));
+}
+
+/// At most 78 columns, and no blanks at the end of a line.
+#[test]
+fn lines_of_the_largest_picture() {
+    let printed = run(&["update", "1", "5", "64"]).printed();
+    let longest = printed.lines().map(str::len).max();
+    assert_eq!(longest, Some(78));
+    assert!(printed.lines().all(|line| line == line.trim_end()));
+}

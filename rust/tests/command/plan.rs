@@ -1,0 +1,151 @@
+//! `yohrundel plan`.
+
+use model::plan::{plan, Window, LONGEST, MOST_WINDOWS, WEEK};
+use model::random::Random;
+use model::Refusal;
+
+use crate::run::{run, Ran};
+
+fn planned(now: &str, duration: &str, windows: &[String]) -> Ran {
+    let mut arguments = vec!["plan", now, duration];
+    arguments.extend(windows.iter().map(String::as_str));
+    run(&arguments)
+}
+
+fn day_and_time(minute: u32) -> (&'static str, String) {
+    let days = ["Mon", "Tue", "Wed", "Thu", "Fri", "Sat", "Sun"];
+    let (hours, minutes) = (minute / 60 % 24, minute % 60);
+    let day = days[minute as usize / (24 * 60)];
+    (day, format!("{hours:02}:{minutes:02}"))
+}
+
+/// A minute of the week in one of the forms that are understood.
+fn written(random: &mut Random, minute: u32) -> String {
+    if minute >= WEEK {
+        return minute.to_string();
+    }
+    let (day, time) = day_and_time(minute);
+    match random.below(5) {
+        0 => minute.to_string(),
+        1 => format!("{day} {time}"),
+        2 => format!("{day}-{time}"),
+        3 => format!("{day}{time}"),
+        _ => format!("{}-{time}", day.to_lowercase()),
+    }
+}
+
+/// What a plan prints beside its reason where it is declined.
+fn expected(now: u32, duration: u32, windows: &[Window]) -> Result<String, &'static str> {
+    match plan(now, duration, windows) {
+        Ok(wait) => {
+            let (day, time) = day_and_time((now + wait) % WEEK);
+            Ok(format!("Wait {wait} minutes, until {day} {time}.\n"))
+        }
+        Err(Refusal::WeekRange) => Err("15: a number of the plan is out of range"),
+        Err(Refusal::NoWait) => Err("16: no wait fits"),
+        Err(refusal) => panic!("{refusal:?}"),
+    }
+}
+
+/// Compares one plan; true where it is not declined.
+fn compare(random: &mut Random, now: u32, duration: u32, windows: &[Window]) -> bool {
+    let texts: Vec<String> = windows
+        .iter()
+        .map(|window| format!("{}:{}", written(random, window.start), window.length))
+        .collect();
+    let ran = planned(&written(random, now), &duration.to_string(), &texts);
+    match expected(now, duration, windows) {
+        Ok(expected) => assert_eq!(ran.printed(), expected, "{now} {duration} {texts:?}"),
+        Err(reason) => {
+            assert_eq!(ran.reason(1), format!("plan: declined by {reason}"));
+            return false;
+        }
+    }
+    true
+}
+
+fn window(start: u32, length: u32) -> Window {
+    Window { start, length }
+}
+
+#[test]
+fn random_plans() {
+    let mut random = Random::new(5);
+    let mut fits = 0;
+    for _ in 0..200 {
+        let random = &mut random;
+        let windows: Vec<Window> = (0..random.between(1, MOST_WINDOWS as u32))
+            .map(|_| window(random.below(WEEK), random.between(1, 600)))
+            .collect();
+        let (now, duration) = (random.below(WEEK), random.between(1, 480));
+        fits += u32::from(compare(random, now, duration, &windows));
+    }
+    assert!((1..200).contains(&fits));
+}
+
+#[test]
+fn edges_of_the_ranges() {
+    let random = &mut Random::new(6);
+    let whole = [window(0, WEEK)];
+    for (now, duration, fits) in [
+        (0, 1, true),
+        (WEEK - 1, LONGEST, true),
+        (WEEK, 1, false),
+        (0, 0, false),
+        (0, LONGEST + 1, false),
+        (u32::MAX, u32::MAX, false),
+    ] {
+        assert_eq!(compare(random, now, duration, &whole), fits);
+    }
+    for (start, length) in [(WEEK, 1), (0, 0), (0, WEEK + 1), (0, 59)] {
+        assert!(!compare(random, 0, 60, &[window(start, length)]));
+    }
+    assert!(compare(random, 5, 60, &[window(0, 60); MOST_WINDOWS]));
+    assert!(!compare(random, 5, 60, &[window(0, 60); MOST_WINDOWS + 1]));
+}
+
+#[test]
+fn times_that_are_not_understood() {
+    for time in [
+        "",
+        "Mo",
+        "Mon",
+        "Mon 7:00",
+        "Mon 24:00",
+        "Mon 07:60",
+        "Mon 07",
+        "Mon  07:00",
+        "Mon_07:00",
+        "Mon 07:00:00",
+        "Mon +7:00",
+        "Day 07:00",
+        "07:00",
+        "4294967296",
+        "M\u{f6}n07:00",
+    ] {
+        let reason = format!("plan: NOW is {time:?}, not a minute of the week or as Mon-22:30");
+        let ran = planned(time, "1", &["0:1".into()]);
+        assert_eq!(
+            ran.reason(2),
+            format!("{reason}; try yohrundel plan --help")
+        );
+    }
+    for text in [
+        "",
+        "0",
+        ":",
+        "0:",
+        ":1",
+        "0:x",
+        "Mon-22:30",
+        "Mon-22:30:",
+        "0:1:1",
+    ] {
+        let reason = format!("plan: START:LENGTH is {text:?}, not as 1350:120 or Mon-22:30:120");
+        let ran = planned("0", "1", &["0:1".into(), text.into()]);
+        assert_eq!(
+            ran.reason(2),
+            format!("{reason}; try yohrundel plan --help")
+        );
+    }
+}
