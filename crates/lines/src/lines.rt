@@ -11,7 +11,7 @@ use crate::buffer::saturating_add;
 use crate::digits::put_digits;
 use crate::digits::width;
 
-const BLANK: u8 = 32;
+pub const BLANK: u8 = 32;
 
 pub const LINE_FEED: u8 = 10;
 

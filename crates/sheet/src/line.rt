@@ -10,9 +10,8 @@ ghost use Rattle.sheet.specs.Line.{rightOf, rightColumnOf, letterOf, ban
 use crate::state::PageState;
 use lines::digits::put_digits;
 use lines::digits::width;
+use lines::lines::BLANK;
 use lines::lines::LINE_FEED;
-
-const BLANK: u8 = 32;
 
 // Writes so many blanks at a position.
 fn put_blanks(out: &mut [u8], at: usize, count: usize)
