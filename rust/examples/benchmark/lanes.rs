@@ -9,16 +9,42 @@ use crate::rounds::{report, rounds, Side};
 /// The passes of a round.
 const PASSES: u32 = 16;
 
+/// Where a list of bytes begins: on a cache line. Elsewhere the plain way back is slower, and its ratio lower.
+const LINE: usize = 64;
+
+/// Bytes that begin on a cache line.
+struct Aligned {
+    all: Vec<u8>,
+    begin: usize,
+    length: usize,
+}
+
+impl Aligned {
+    fn new(length: usize) -> Aligned {
+        let all = vec![0; length + LINE];
+        let begin = all.as_ptr().align_offset(LINE);
+        Aligned { all, begin, length }
+    }
+
+    fn bytes(&self) -> &[u8] {
+        &self.all[self.begin..][..self.length]
+    }
+
+    fn bytes_mut(&mut self) -> &mut [u8] {
+        &mut self.all[self.begin..][..self.length]
+    }
+}
+
 /// One way from a source to a target.
 struct Way<'a> {
     pass: fn(&[u8], &mut [u8]),
     source: &'a [u8],
-    target: Vec<u8>,
+    target: Aligned,
 }
 
 impl<'a> Way<'a> {
     fn new(pass: fn(&[u8], &mut [u8]), source: &'a [u8]) -> Way<'a> {
-        let target = vec![0; source.len()];
+        let target = Aligned::new(source.len());
         Way {
             pass,
             source,
@@ -31,7 +57,7 @@ impl Side for Way<'_> {
     fn restart(&mut self) {}
 
     fn run(&mut self, _: u32) {
-        (self.pass)(self.source, &mut self.target);
+        (self.pass)(self.source, self.target.bytes_mut());
     }
 }
 
@@ -67,18 +93,21 @@ fn archive_back(source: &[u8], target: &mut [u8]) {
 pub fn beside_plain_loops() {
     let geometry = Geometry::new([128, 5, 64]).expect("a sign");
     let words = random_image(&geometry, 3);
-    let image: Vec<u8> = words.iter().flat_map(|word| word.to_le_bytes()).collect();
-    let mut out = Way::new(archive_out, &image);
-    let mut plain = Way::new(plain_out, &image);
+    let mut image = Aligned::new(4 * words.len());
+    for (bytes, word) in image.bytes_mut().chunks_exact_mut(4).zip(words) {
+        bytes.copy_from_slice(&word.to_le_bytes());
+    }
+    let image = image.bytes();
+    let mut out = Way::new(archive_out, image);
+    let mut plain = Way::new(plain_out, image);
     let out_times = rounds([&mut out, &mut plain], PASSES);
-    assert!(out.target == plain.target, "the lanes");
-    let mut back = Way::new(archive_back, &out.target);
-    let mut plain = Way::new(plain_back, &out.target);
+    let lanes = out.target.bytes();
+    assert!(lanes == plain.target.bytes(), "the lanes");
+    let mut back = Way::new(archive_back, lanes);
+    let mut plain = Way::new(plain_back, lanes);
     let back_times = rounds([&mut back, &mut plain], PASSES);
-    assert!(
-        back.target == plain.target && back.target == image,
-        "the image"
-    );
+    assert!(back.target.bytes() == image, "the image");
+    assert!(plain.target.bytes() == image, "the image of the plain loop");
     let bytes = image.len() as u32;
     println!(
         "image of {bytes} bytes: its lanes are those of a plain loop, and back it is the same"
