@@ -1,5 +1,10 @@
 //! Call cases: parsing a line, making the call, printing what stands right of the bar.
 
+mod requests;
+mod shapes;
+
+pub use shapes::{Call, Shape, BASE, SHAPES};
+
 use crate::device::{possible, protected, Device, REGISTERS};
 use crate::flash::{flash_read, lower_bank, page, reset, step};
 use crate::geometry::{Banks, Geometry, Kind, Side};
@@ -8,73 +13,6 @@ use crate::sequence::compare;
 use crate::store::{register_read, start_up, store};
 use crate::update::{turn, update_start};
 use crate::Answer;
-
-#[derive(Clone, Copy, Debug, PartialEq, Eq)]
-pub enum Call {
-    Compare,
-    Possible,
-    Protected,
-    Store,
-    RegisterRead,
-    FlashRead,
-    LowerBank,
-    Page,
-    Step,
-    Reset,
-    StartUp,
-    UpdateStart,
-    Turn,
-}
-
-/// The inputs of a call, in the order in which a line gives them.
-pub struct Shape {
-    pub call: Call,
-    pub name: &'static str,
-    pub geometry: bool,
-    pub device: bool,
-    pub lists: usize,
-    pub numbers: usize,
-}
-
-const fn shape(
-    call: Call,
-    name: &'static str,
-    geometry: bool,
-    device: bool,
-    lists: usize,
-    numbers: usize,
-) -> Shape {
-    Shape {
-        call,
-        name,
-        geometry,
-        device,
-        lists,
-        numbers,
-    }
-}
-
-pub const SHAPES: [Shape; 13] = [
-    shape(Call::Compare, "compare", false, false, 0, 2),
-    shape(Call::Possible, "possible", true, true, 0, 0),
-    shape(Call::Protected, "protected", true, true, 0, 3),
-    shape(Call::Store, "store", true, true, 0, 3),
-    shape(Call::RegisterRead, "register_read", true, true, 0, 1),
-    shape(Call::FlashRead, "flash_read", true, true, 2, 1),
-    shape(Call::LowerBank, "lower_bank", true, true, 2, 0),
-    shape(Call::Page, "page", true, false, 1, 1),
-    shape(Call::Step, "step", true, true, 3, 0),
-    shape(Call::Reset, "reset", true, true, 3, 5),
-    shape(Call::StartUp, "startup", true, true, 0, 0),
-    shape(Call::UpdateStart, "update_start", true, true, 3, 0),
-    shape(Call::Turn, "turn", true, true, 4, 1),
-];
-
-impl Call {
-    pub fn shape(self) -> &'static Shape {
-        &SHAPES[self as usize]
-    }
-}
 
 /// One case; inputs that its call does not take stay at their default.
 #[derive(Clone, Debug, PartialEq, Eq)]
@@ -119,11 +57,18 @@ impl Case {
         if shape.device {
             case.device = take_device(numbers)?;
         }
-        for _ in 0..shape.lists {
-            case.lists.push(List::take(numbers)?);
+        for number in 0..shape.lists {
+            let list = List::take(numbers)?;
+            if number + shape.bytes >= shape.lists && !list.holds_bytes() {
+                return None;
+            }
+            case.lists.push(list);
         }
         for _ in 0..shape.numbers {
             case.numbers.push(numbers.next()?);
+        }
+        if shape.pairs {
+            case.numbers.extend(take_pairs(numbers)?);
         }
         Some(case)
     }
@@ -175,7 +120,7 @@ impl Case {
         let kind = [Kind::Boot, Kind::Program].get(self.numbers[0] as usize)?;
         let side = [Side::Lower, Side::Upper].get(self.numbers[1] as usize)?;
         let page = self.numbers[2];
-        if page >= geometry.window_bytes(*kind) / geometry.page_bytes() {
+        if page >= geometry.window_pages(*kind) {
             return None;
         }
         Some(protected(&geometry, &self.device, *kind, *side, page))
@@ -196,6 +141,9 @@ impl Case {
             }
             Call::StartUp => Ok(device_outputs(&start_up(geometry, device)?, &[])),
             Call::Page => self.answer_page(),
+            Call::Plan | Call::PageSheet | Call::LanesOut | Call::LanesBack => {
+                self.answer_request()
+            }
             _ => self.answer_with_banks(),
         }
     }
@@ -274,6 +222,16 @@ fn parse_number(part: &str) -> Option<u32> {
         return None;
     }
     part.parse().ok()
+}
+
+/// A count, then that many pairs.
+fn take_pairs(numbers: &mut impl Iterator<Item = u32>) -> Option<Vec<u32>> {
+    let count = numbers.next()?;
+    let mut taken = vec![count];
+    for _ in 0..count {
+        taken.extend([numbers.next()?, numbers.next()?]);
+    }
+    Some(taken)
 }
 
 fn take_device(numbers: &mut impl Iterator<Item = u32>) -> Option<Device> {

@@ -5,11 +5,11 @@ use std::io::{self, BufRead, BufWriter, Read, Write};
 use std::path::{Path, PathBuf};
 use std::time::Instant;
 
-use model::cases::{answer_line, left_of_bar};
+use model::cases::{answer_line, left_of_bar, Case};
 use model::cuts::cuts;
 use model::device::{Device, NVMCON};
 use model::flash::reset;
-use model::generate::{self, Cases, DEFAULT_WORDS};
+use model::generate::{self, directed, Cases, DEFAULT_WORDS};
 use model::geometry::{Banks, Geometry};
 use model::script::{bundled, play, unbundled, BYTE_LIMIT};
 use model::sequence::new_quad;
@@ -25,11 +25,17 @@ pub fn run(words: &[&str]) -> Option<io::Result<bool>> {
         ["scripts", folder] => Some(scripts(Path::new(folder))),
         ["bundle", folder, count] => Some(bundle(Path::new(folder), count.parse().ok()?)),
         ["play_bundle"] => Some(play_bundle()),
-        ["directed"] => Some(directed("")),
-        ["directed", subject] => Some(directed(subject)),
+        ["directed"] => Some(print_directed(directed::cases(), "")),
+        ["directed", subject] => Some(print_directed(directed::cases(), subject)),
+        ["directed_requests"] => Some(print_directed(directed::request_cases(), "")),
+        ["directed_requests", subject] => Some(print_directed(directed::request_cases(), subject)),
         ["complete", file] => Some(complete(file)),
-        ["cases", seed, count] => cases(seed, count, DEFAULT_WORDS),
-        ["cases", seed, count, most] => cases(seed, count, most.parse().ok()?),
+        ["cases", seed, count] => cases(Cases::new, seed, count, DEFAULT_WORDS),
+        ["cases", seed, count, most] => cases(Cases::new, seed, count, most.parse().ok()?),
+        ["requests", seed, count] => cases(Cases::of_requests, seed, count, DEFAULT_WORDS),
+        ["requests", seed, count, most] => {
+            cases(Cases::of_requests, seed, count, most.parse().ok()?)
+        }
         ["script", seed] => script(seed, false),
         ["script", seed, "damaged"] => script(seed, true),
         ["update", quads, boot, program] => {
@@ -128,11 +134,11 @@ fn play_bundle() -> io::Result<bool> {
     Ok(true)
 }
 
-/// The directed cases of a subject, or all where none is named.
-fn directed(subject: &str) -> io::Result<bool> {
+/// Directed cases of a subject, or all where none is named.
+fn print_directed(cases: Vec<(&str, Case)>, subject: &str) -> io::Result<bool> {
     let mut output = BufWriter::new(io::stdout().lock());
     let mut count = 0;
-    for (name, case) in generate::directed::cases() {
+    for (name, case) in cases {
         if subject.is_empty() || subject == name {
             count += 1;
             if let Some(line) = generate::line(&case) {
@@ -155,7 +161,7 @@ fn complete(file: &str) -> io::Result<bool> {
     let text = String::from_utf8_lossy(&bytes).into_owned();
     let mut seen: HashSet<&str> = text.lines().map(left_of_bar).collect();
     let stored = std::fs::read_to_string(file)?;
-    let directed = generate::directed::cases();
+    let directed = directed::cases();
     let directed: Vec<String> = directed.iter().map(|(_, case)| case.inputs()).collect();
     for line in stored.lines().chain(directed.iter().map(String::as_str)) {
         if seen.insert(left_of_bar(line)) {
@@ -167,17 +173,20 @@ fn complete(file: &str) -> io::Result<bool> {
     Ok(true)
 }
 
-fn cases(seed: &str, count: &str, most: u32) -> Option<io::Result<bool>> {
+fn cases(
+    make: fn(u64, u32) -> Cases,
+    seed: &str,
+    count: &str,
+    most: u32,
+) -> Option<io::Result<bool>> {
     let count: usize = count.parse().ok()?;
-    Some(print_cases(seed.parse().ok()?, count, most))
+    Some(print_cases(make(seed.parse().ok()?, most).take(count)))
 }
 
-fn print_cases(seed: u64, count: usize, most: u32) -> io::Result<bool> {
+fn print_cases(cases: impl Iterator<Item = Case>) -> io::Result<bool> {
     let mut output = BufWriter::new(io::stdout().lock());
-    for case in Cases::new(seed, most).take(count) {
-        if let Some(line) = generate::line(&case) {
-            writeln!(output, "{line}")?;
-        }
+    for line in cases.filter_map(|case| generate::line(&case)) {
+        writeln!(output, "{line}")?;
     }
     output.flush()?;
     Ok(true)

@@ -137,6 +137,14 @@ impl Geometry {
         }
     }
 
+    /// Pages of one kind in a bank.
+    pub fn window_pages(&self, kind: Kind) -> u32 {
+        match kind {
+            Kind::Boot => self.boot_pages,
+            Kind::Program => self.program_pages,
+        }
+    }
+
     /// Where an address lies; none outside the four windows.
     pub fn locate(&self, address: u32) -> Option<Location> {
         for kind in [Kind::Boot, Kind::Program] {

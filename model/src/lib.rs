@@ -8,11 +8,14 @@ pub mod device;
 pub mod flash;
 pub mod generate;
 pub mod geometry;
+pub mod lanes;
 pub mod list;
 pub mod operation;
+pub mod plan;
 pub mod random;
 pub mod script;
 pub mod sequence;
+pub mod sheet;
 pub mod store;
 pub mod update;
 
@@ -33,6 +36,10 @@ pub enum Refusal {
     Protection = 12,
     Place = 13,
     Script = 14,
+    WeekRange = 15,
+    NoWait = 16,
+    SheetBuffer = 18,
+    LaneLengths = 22,
 }
 
 impl Refusal {

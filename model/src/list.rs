@@ -1,4 +1,4 @@
-//! A lent list of words as the cases write it: length, fill, and the words that differ.
+//! A lent list of words or bytes as the cases write it: length, fill, and the words that differ.
 
 /// Longer lists are no case.
 pub const LENGTH_LIMIT: usize = 1 << 24;
@@ -27,6 +27,26 @@ impl List {
             words[*index] = *word;
         }
         words
+    }
+
+    pub fn from_bytes(bytes: &[u8]) -> List {
+        let words: Vec<u32> = bytes.iter().map(|byte| u32::from(*byte)).collect();
+        let mut list = List::from_words(&words);
+        if bytes.is_empty() {
+            list.fill = 0;
+        }
+        list
+    }
+
+    /// Whether the fill and every word are bytes.
+    pub fn holds_bytes(&self) -> bool {
+        let mut words = self.pairs.iter().map(|(_, word)| *word);
+        self.fill <= 0xFF && words.all(|word| word <= 0xFF)
+    }
+
+    /// The bytes of a list that holds bytes.
+    pub fn bytes(&self) -> Vec<u8> {
+        self.words().iter().map(|word| *word as u8).collect()
     }
 
     /// Takes a list from the front of the numbers; none where it is malformed.

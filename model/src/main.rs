@@ -12,8 +12,10 @@ const USAGE: &str = "usage:
   model bundle DIR COUNT
   model play_bundle
   model directed [SUBJECT]
+  model directed_requests [SUBJECT]
   model complete FILE
   model cases SEED COUNT [MAX_WORDS]
+  model requests SEED COUNT [MAX_WORDS]
   model script SEED [damaged]
   model update Q B P
   model cuts";

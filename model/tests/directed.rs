@@ -4,7 +4,7 @@ use std::collections::{BTreeMap, BTreeSet};
 
 use model::cases::{answer_line, Call, Case};
 use model::device::{WR, WRERR};
-use model::generate::directed::{cases, ordered};
+use model::generate::directed::{cases, ordered, ordered_sheets, request_cases};
 use model::generate::{line, record_edges, refused_scripts};
 use model::script::play;
 
@@ -51,7 +51,7 @@ fn outcome(case: &Case) -> String {
 /// The outcomes of a subject's cases, by call.
 fn outcomes() -> BTreeMap<(&'static str, &'static str), BTreeSet<String>> {
     let mut outcomes: BTreeMap<_, BTreeSet<String>> = BTreeMap::new();
-    for (subject, case) in cases() {
+    for (subject, case) in cases().into_iter().chain(request_cases()) {
         let call = case.call.shape().name;
         outcomes
             .entry((subject, call))
@@ -93,6 +93,10 @@ fn both_sides_of_each_subject_occur() {
         ("protection", "protected", "0 1"),
         ("updates", "update_start", "accepted 2 5 10 11 12"),
         ("updates", "turn", "accepted written event done 2 5 6 13"),
+        ("plans", "plan", "accepted 15 16"),
+        ("sheets", "page_sheet", "accepted 1 2 3 18"),
+        ("lanes", "lanes_out", "accepted 22"),
+        ("lanes", "lanes_back", "accepted 22"),
     ] {
         let expected: BTreeSet<String> = expected.split(' ').map(String::from).collect();
         assert_eq!(outcomes[&(subject, call)], expected, "{subject} {call}");
@@ -120,7 +124,7 @@ fn every_call_declines_an_impossible_device() {
 
 #[test]
 fn the_lowest_decline_is_given() {
-    for (lowest, case) in ordered() {
+    for (lowest, case) in ordered().into_iter().chain(ordered_sheets()) {
         assert_eq!(numbers(&case)[0], lowest, "{}", case.inputs());
     }
 }
@@ -128,7 +132,7 @@ fn the_lowest_decline_is_given() {
 #[test]
 fn directed_cases_come_back() {
     let mut seen = BTreeSet::new();
-    for (_, case) in cases() {
+    for (_, case) in cases().into_iter().chain(request_cases()) {
         let line = line(&case).unwrap();
         assert_eq!(Case::parse(&line).as_ref(), Some(&case));
         assert_eq!(line, format!("{} | {}", case.inputs(), answer_line(&line)));

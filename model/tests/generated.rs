@@ -3,7 +3,7 @@
 use std::collections::{BTreeMap, BTreeSet};
 
 use model::cases::{answer_line, Call, Case, SHAPES};
-use model::generate::{line, script, Cases, MOST_WORDS};
+use model::generate::{line, request_lines, script, Cases, MOST_WORDS};
 use model::script::{play, records};
 
 /// The declines of each call.
@@ -20,11 +20,23 @@ fn declines(call: Call) -> &'static [u32] {
         Call::StartUp => &[1, 3, 5],
         Call::UpdateStart => &[1, 2, 3, 5, 10, 11, 12],
         Call::Turn => &[1, 2, 3, 5, 6, 13],
+        Call::Plan => &[15, 16],
+        Call::PageSheet => &[1, 2, 3, 18],
+        Call::LanesOut | Call::LanesBack => &[22],
     }
 }
 
 fn first_number(answer: &str) -> u32 {
     answer.split(' ').next().unwrap().parse().unwrap()
+}
+
+fn come_back(cases: impl Iterator<Item = Case>) {
+    for case in cases {
+        let line = line(&case).expect("a case of a known call");
+        let (_, answer) = line.split_once(" | ").unwrap();
+        assert_eq!(Case::parse(&line).as_ref(), Some(&case));
+        assert_eq!(answer_line(&line), answer);
+    }
 }
 
 #[test]
@@ -35,19 +47,64 @@ fn generated_cases_come_back() {
         (3, 4096, 300),
         (4, MOST_WORDS, 60),
     ] {
-        for case in Cases::new(seed, most).take(count) {
-            let line = line(&case).expect("a case of a known call");
-            let (_, answer) = line.split_once(" | ").unwrap();
-            assert_eq!(Case::parse(&line).as_ref(), Some(&case));
-            assert_eq!(answer_line(&line), answer);
+        come_back(Cases::new(seed, most).take(count));
+    }
+}
+
+#[test]
+fn generated_requests_come_back() {
+    for (seed, most, count) in [(1, 512, 2000), (2, 64, 300), (3, 4096, 100)] {
+        come_back(Cases::of_requests(seed, most).take(count));
+    }
+}
+
+/// Stored inputs were made from seeds.
+#[test]
+fn a_seed_keeps_its_lines() {
+    let mut sum: u64 = 0;
+    for case in Cases::new(1, 512).take(1000) {
+        for byte in line(&case).unwrap().bytes() {
+            sum = (1_000_003 * sum + u64::from(byte)) % 4_294_967_311;
         }
     }
+    assert_eq!(sum, 602_659_649);
+}
+
+/// Sheets of every Q, under all four mappings, of idle and running devices; plans of few and many windows.
+#[test]
+fn requests_vary() {
+    let mut seen = BTreeSet::new();
+    for case in Cases::of_requests(1, 512).take(3000) {
+        let accepted = first_number(&case.answer().unwrap()) == 0;
+        match case.call {
+            Call::PageSheet if accepted => {
+                let device = case.device;
+                seen.insert(format!("Q {}", case.geometry[0]));
+                seen.insert(format!("mapping {}", device.registers[0] & 0xC0));
+                seen.insert(format!("running {}", device.running()));
+            }
+            Call::Plan => {
+                seen.insert(format!("windows {}", case.numbers[2].min(15)));
+            }
+            _ => {}
+        }
+    }
+    assert_eq!(seen.len(), 8 + 4 + 2 + 16, "{seen:?}");
+}
+
+#[test]
+fn request_lines_are_those_of_the_cases() {
+    let cases = Cases::of_requests(5, 512).take(50);
+    assert!(cases
+        .map(|case| line(&case).unwrap())
+        .eq(request_lines(5, 512).take(50)));
 }
 
 #[test]
 fn every_decline_occurs() {
     let mut seen: BTreeMap<&str, BTreeSet<u32>> = BTreeMap::new();
-    for case in Cases::new(1, 512).take(8000) {
+    let requests = Cases::of_requests(1, 512).take(2000);
+    for case in Cases::new(1, 512).take(8000).chain(requests) {
         let answer = case.answer().unwrap();
         seen.entry(case.call.shape().name)
             .or_default()

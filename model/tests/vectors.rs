@@ -8,14 +8,28 @@ fn folder() -> PathBuf {
     Path::new(env!("CARGO_MANIFEST_DIR")).join("vectors")
 }
 
-#[test]
-fn stored_cases() {
-    let text = std::fs::read_to_string(folder().join("calls.txt")).unwrap();
+/// Compares each stored right side with the model's; gives the count of lines.
+fn compare_lines(path: &Path) -> usize {
+    let text = std::fs::read_to_string(path).unwrap();
     for (number, line) in text.lines().enumerate() {
         let (_, stored) = line.split_once(" | ").unwrap();
-        assert_eq!(answer_line(line), stored, "line {}", number + 1);
+        let place = format!("{}: line {}", path.display(), number + 1);
+        assert_eq!(answer_line(line), stored, "{place}");
     }
-    assert!(text.lines().count() >= 400);
+    text.lines().count()
+}
+
+#[test]
+fn stored_cases() {
+    assert!(compare_lines(&folder().join("calls.txt")) >= 400);
+}
+
+#[test]
+fn stored_requests() {
+    for (name, count) in [("plan", 400), ("page_sheet", 120), ("lanes", 300)] {
+        let path = folder().join("requests").join(name).with_extension("txt");
+        assert_eq!(compare_lines(&path), count);
+    }
 }
 
 #[test]
@@ -56,6 +70,36 @@ fn lines_that_are_no_case() {
         "page 1 1 1 64 0 2 3 7 1",
         "page 1 1 1 4294967295 0 0 1",
         "register_read 1 1 1 0 0 0 0",
+    ] {
+        assert_eq!(answer_line(line), "?", "{line}");
+    }
+}
+
+#[test]
+fn lines_that_are_no_case_of_a_request() {
+    let device = "0 0 0 0 0 0 0 0 2147483648 40927 2031616 0 0";
+    let sheet = format!("page_sheet 1 1 1 {device} 64 0 0 64 0 0");
+    assert_eq!(answer_line("plan 5 1 1 0 1"), "0 10075");
+    assert_eq!(answer_line("plan 5 1 0"), "15");
+    assert_eq!(answer_line("lanes_out 4 7 0 4 0 1 3 7"), "0 3 0 7 1 7 2 7");
+    assert_eq!(answer_line(&format!("{sheet} 67 255 0")), "18");
+    for line in [
+        "plan",
+        "plan 5 1",
+        "plan 5 1 1",
+        "plan 5 1 1 0",
+        "plan 5 1 1 0 1 2",
+        "plan 5 1 2 0 1 2",
+        "plan 5 1 4294967295 0 1",
+        "lanes_out 4 7 0",
+        "lanes_out 4 7 0 4 0 1 4 7",
+        "lanes_out 4 256 0 4 0 0",
+        "lanes_back 4 7 0 4 0 1 3 256",
+        "lanes_back 4 7 0 4 0 0 0",
+        "lanes 4 7 0 4 0 0",
+        &sheet,
+        &format!("{sheet} 67 256 0"),
+        &format!("{sheet} 67 0 1 0 256"),
     ] {
         assert_eq!(answer_line(line), "?", "{line}");
     }

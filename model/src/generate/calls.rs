@@ -10,8 +10,11 @@ use crate::store::KEYS;
 use crate::update::total;
 
 use super::devices;
+use super::lanes::lanes_case;
 use super::memory;
 use super::places::{self, Start};
+use super::plans::plan_case;
+use super::sheets::page_sheet_case;
 use super::MOST_WORDS;
 
 /// How seldom one input is spoiled: once in this many cases.
@@ -53,6 +56,9 @@ fn fill_case(random: &mut Random, geometry: &Geometry, case: &mut Case) {
         Call::StartUp => start_up_case(random, geometry, case),
         Call::UpdateStart => update_start_case(random, geometry, case),
         Call::Turn => turn_case(random, geometry, case),
+        Call::Plan => plan_case(random, case),
+        Call::PageSheet => page_sheet_case(random, geometry, case),
+        Call::LanesOut | Call::LanesBack => lanes_case(random, case),
     }
 }
 
@@ -123,7 +129,7 @@ fn store_value(random: &mut Random, geometry: &Geometry, register: u32) -> u32 {
 }
 
 /// Both banks as lists, seldom with a refused length.
-fn put_banks(random: &mut Random, case: &mut Case, mut banks: [Vec<u32>; 2]) {
+pub fn put_banks(random: &mut Random, case: &mut Case, mut banks: [Vec<u32>; 2]) {
     if random.one_in(SPOILED) {
         let bank = random.below(2) as usize;
         memory::refused_length(random, &mut banks[bank]);
@@ -175,7 +181,7 @@ fn page_case(random: &mut Random, geometry: &Geometry, case: &mut Case) {
     let page = match random.below(6) {
         0 => random.pick(&[pages, pages + 1, 0x8000_0000, 0xFFFF_FFFF]),
         1 => pages - 1,
-        2 => geometry.window_bytes(Kind::Boot) / geometry.page_bytes() - 1,
+        2 => geometry.boot_pages - 1,
         _ => random.below(pages),
     };
     case.numbers = vec![page];

@@ -3,14 +3,17 @@
 mod fields;
 mod impossible;
 mod keys;
+mod lanes;
 mod launches;
 mod orders;
 mod pages;
 mod parts;
+mod plans;
 mod protection;
 mod reads;
 mod resets;
 mod rows;
+mod sheets;
 mod singles;
 mod start_ups;
 mod steps;
@@ -19,6 +22,7 @@ mod tears;
 mod updates;
 
 pub use orders::ordered;
+pub use sheets::ordered_sheets;
 
 use std::collections::HashSet;
 
@@ -53,11 +57,28 @@ pub const SUBJECTS: [Subject; 16] = [
     subject("updates", updates::cases),
 ];
 
-/// The cases of every subject; one that several subjects make stands with the first of them.
+/// Subjects of the calls that later requests added.
+pub const REQUEST_SUBJECTS: [Subject; 3] = [
+    subject("plans", plans::cases),
+    subject("sheets", sheets::cases),
+    subject("lanes", lanes::cases),
+];
+
+/// The cases of the base's subjects.
 pub fn cases() -> Vec<(&'static str, Case)> {
+    cases_of(&SUBJECTS)
+}
+
+/// The cases of the requests' subjects.
+pub fn request_cases() -> Vec<(&'static str, Case)> {
+    cases_of(&REQUEST_SUBJECTS)
+}
+
+/// The cases of some subjects; one that several of them make stands with the first.
+fn cases_of(subjects: &[Subject]) -> Vec<(&'static str, Case)> {
     let mut seen = HashSet::new();
     let mut cases = Vec::new();
-    for subject in &SUBJECTS {
+    for subject in subjects {
         for case in (subject.make)() {
             if seen.insert(case.inputs()) {
                 cases.push((subject.name, case));

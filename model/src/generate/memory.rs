@@ -1,4 +1,4 @@
-//! Banks, images, SRAM and sequence words.
+//! Banks, images, SRAM, sequence words and bytes.
 
 use crate::device::{Device, NVMSRCADDR};
 use crate::geometry::{Geometry, ALL_ONES};
@@ -129,6 +129,17 @@ pub fn refused_length(random: &mut Random, words: &mut Vec<u32>) {
         _ => length - 1,
     };
     words.resize(other, ALL_ONES);
+}
+
+/// Sets some bytes, the last among them.
+pub fn set_bytes(random: &mut Random, bytes: &mut [u8]) {
+    let length = bytes.len() as u32;
+    for _ in 0..random.below(8) {
+        if let Some(last) = bytes.last_mut() {
+            *last = random.word() as u8;
+            bytes[random.below(length) as usize] = random.word() as u8;
+        }
+    }
 }
 
 /// "bank 1 valid, bank 2 all ones": the banks of a fresh sign.

@@ -16,7 +16,7 @@ pub fn cases() -> Vec<Case> {
     for row_quads in ROW_QUADS {
         lengths(&geometry(row_quads, 1, 1), &mut cases);
     }
-    for geometry in [geometry(1, 5, 64), SEVERAL, LARGEST] {
+    for geometry in [MANY_PAGES, SEVERAL, LARGEST] {
         lengths(&geometry, &mut cases);
     }
     for geometry in [SMALL, SEVERAL] {
@@ -142,7 +142,7 @@ fn regions(geometry: &Geometry, cases: &mut Vec<Case>) {
 }
 
 /// Devices impossible for one reason each.
-fn reasons() -> Vec<Device> {
+pub fn reasons() -> Vec<Device> {
     let runs = running(4, LOWER_PROGRAM, 0);
     vec![
         with_con(idle(), 0x10),

@@ -10,10 +10,10 @@ use crate::update::total;
 
 use super::parts::*;
 
-type Change = fn(&mut Case);
+pub type Change = fn(&mut Case);
 
 /// A decline's number, and changes each of which makes it apply.
-type Cause = (u32, &'static [Change]);
+pub type Cause = (u32, &'static [Change]);
 
 pub fn cases() -> Vec<Case> {
     ordered().into_iter().map(|(_, case)| case).collect()
@@ -97,7 +97,7 @@ fn turns() -> Vec<(u32, Case)> {
 const FIRST_STEP: u32 = 19;
 
 /// Every choice of declines, with one change for each of them.
-fn combined(base: Case, causes: &[Cause]) -> Vec<(u32, Case)> {
+pub fn combined(base: Case, causes: &[Cause]) -> Vec<(u32, Case)> {
     let mut cases = vec![(0, base)];
     for (number, changes) in causes {
         for (lowest, case) in cases.clone() {
@@ -112,10 +112,10 @@ fn combined(base: Case, causes: &[Cause]) -> Vec<(u32, Case)> {
     cases
 }
 
-const GEOMETRY: Cause = (1, &[three_quads]);
-const LENGTHS: Cause = (2, &[longer, second_shorter]);
+pub const GEOMETRY: Cause = (1, &[three_quads]);
+pub const LENGTHS: Cause = (2, &[longer, second_shorter]);
 const MEMORY: Cause = (2, &[longer, second_shorter, long_sram]);
-const DEVICE: Cause = (3, &[key_step_four, step_far]);
+pub const DEVICE: Cause = (3, &[key_step_four, step_far]);
 const REGISTER: Cause = (4, &[register_eleven]);
 const RUNNING: Cause = (5, &[runs]);
 const IDLE: Cause = (6, &[idles]);

@@ -10,7 +10,7 @@ pub fn cases() -> Vec<Case> {
     for row_quads in ROW_QUADS {
         numbers(&geometry(row_quads, 2, 3), &mut cases);
     }
-    for geometry in [SMALL, geometry(1, 5, 64), LARGEST] {
+    for geometry in [SMALL, MANY_PAGES, LARGEST] {
         numbers(&geometry, &mut cases);
         lengths(&geometry, &mut cases);
     }

@@ -2,8 +2,10 @@
 
 use crate::cases::{Call, Case};
 use crate::device::*;
+use crate::generate::plans::put_plan;
 use crate::geometry::{Geometry, Kind, Side, ALL_ONES};
 use crate::list::List;
+use crate::plan::Window;
 use crate::sequence::word_of;
 use crate::store::SET;
 
@@ -19,6 +21,13 @@ pub const SEVERAL: Geometry = Geometry {
     row_quads: 2,
     boot_pages: 2,
     program_pages: 3,
+};
+
+/// The most pages, of the shortest rows.
+pub const MANY_PAGES: Geometry = Geometry {
+    row_quads: 1,
+    boot_pages: 5,
+    program_pages: 64,
 };
 
 /// The largest banks.
@@ -265,10 +274,40 @@ pub fn turn(
     case
 }
 
-/// The lists that are as long as a bank: all but the SRAM.
+/// Windows are pairs of start and length.
+pub fn plan(present: u32, duration: u32, windows: &[(u32, u32)]) -> Case {
+    let windows: Vec<Window> = windows
+        .iter()
+        .map(|(start, length)| Window {
+            start: *start,
+            length: *length,
+        })
+        .collect();
+    let mut case = Case::new(Call::Plan);
+    put_plan(&mut case, present, duration, &windows);
+    case
+}
+
+pub fn page_sheet(geometry: &Geometry, device: Device, banks: &Pair, buffer: &[u8]) -> Case {
+    let mut case = case(Call::PageSheet, geometry, device);
+    lists(&mut case, banks);
+    case.lists.push(List::from_bytes(buffer));
+    case
+}
+
+/// Both ways, from the same source to the same target.
+pub fn lanes(source: &[u8], target: &[u8]) -> [Case; 2] {
+    [Call::LanesOut, Call::LanesBack].map(|call| {
+        let mut case = Case::new(call);
+        case.lists = vec![List::from_bytes(source), List::from_bytes(target)];
+        case
+    })
+}
+
+/// The lists that are as long as a bank: all but the SRAM and a buffer.
 pub fn bank_lists(case: &mut Case) -> &mut [List] {
     let count = match case.call {
-        Call::Step | Call::Reset | Call::Turn => case.lists.len() - 1,
+        Call::Step | Call::Reset | Call::Turn | Call::PageSheet => case.lists.len() - 1,
         _ => case.lists.len(),
     };
     &mut case.lists[..count]

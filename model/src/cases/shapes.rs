@@ -1,0 +1,98 @@
+//! The table of calls with the inputs of each.
+
+#[derive(Clone, Copy, Debug, PartialEq, Eq)]
+pub enum Call {
+    Compare,
+    Possible,
+    Protected,
+    Store,
+    RegisterRead,
+    FlashRead,
+    LowerBank,
+    Page,
+    Step,
+    Reset,
+    StartUp,
+    UpdateStart,
+    Turn,
+    Plan,
+    PageSheet,
+    LanesOut,
+    LanesBack,
+}
+
+/// The inputs of a call, in the order in which a line gives them.
+pub struct Shape {
+    pub call: Call,
+    pub name: &'static str,
+    pub geometry: bool,
+    pub device: bool,
+    pub lists: usize,
+    /// How many of the lists, the last ones, are lists of bytes.
+    pub bytes: usize,
+    pub numbers: usize,
+    /// Whether a count and that many pairs follow the numbers.
+    pub pairs: bool,
+}
+
+const fn shape(
+    call: Call,
+    name: &'static str,
+    geometry: bool,
+    device: bool,
+    lists: usize,
+    numbers: usize,
+) -> Shape {
+    Shape {
+        call,
+        name,
+        geometry,
+        device,
+        lists,
+        bytes: 0,
+        numbers,
+        pairs: false,
+    }
+}
+
+/// The calls of the base stand first, those of later requests follow.
+pub const SHAPES: [Shape; 17] = [
+    shape(Call::Compare, "compare", false, false, 0, 2),
+    shape(Call::Possible, "possible", true, true, 0, 0),
+    shape(Call::Protected, "protected", true, true, 0, 3),
+    shape(Call::Store, "store", true, true, 0, 3),
+    shape(Call::RegisterRead, "register_read", true, true, 0, 1),
+    shape(Call::FlashRead, "flash_read", true, true, 2, 1),
+    shape(Call::LowerBank, "lower_bank", true, true, 2, 0),
+    shape(Call::Page, "page", true, false, 1, 1),
+    shape(Call::Step, "step", true, true, 3, 0),
+    shape(Call::Reset, "reset", true, true, 3, 5),
+    shape(Call::StartUp, "startup", true, true, 0, 0),
+    shape(Call::UpdateStart, "update_start", true, true, 3, 0),
+    shape(Call::Turn, "turn", true, true, 4, 1),
+    Shape {
+        pairs: true,
+        ..shape(Call::Plan, "plan", false, false, 0, 2)
+    },
+    Shape {
+        bytes: 1,
+        ..shape(Call::PageSheet, "page_sheet", true, true, 3, 0)
+    },
+    Shape {
+        bytes: 2,
+        ..shape(Call::LanesOut, "lanes_out", false, false, 2, 0)
+    },
+    Shape {
+        bytes: 2,
+        ..shape(Call::LanesBack, "lanes_back", false, false, 2, 0)
+    },
+];
+
+/// How many calls the base has.
+pub const BASE: usize = 13;
+
+impl Call {
+    pub fn shape(self) -> &'static Shape {
+        &SHAPES[self as usize]
+    }
+}
