@@ -5,6 +5,6 @@ pub mod cases;
 pub mod changes;
 pub mod differences;
 pub mod input;
-mod lists;
-mod numbers;
+pub mod lists;
+pub mod numbers;
 pub mod output;

@@ -17,7 +17,7 @@ pub fn flush(out: &[u8], used: usize) -> usize
     0
 }
 
-fn put_byte(out: &mut [u8], used: usize, byte: u8) -> usize
+pub fn put_byte(out: &mut [u8], used: usize, byte: u8) -> usize
     requires { ⌜ Used (now out) used ⌝ }
     ensures { λ r. ⌜ Used (now (out .exit)) r ⌝ }
 {
@@ -43,13 +43,26 @@ fn put_bytes(out: &mut [u8], used: usize, bytes: &[u8]) -> usize
     at
 }
 
-fn put_number(out: &mut [u8], used: usize, number: u32) -> usize
+pub fn put_number(out: &mut [u8], used: usize, number: u64) -> usize
     requires { ⌜ Used (now out) used ⌝ }
     ensures { λ r. ⌜ Used (now (out .exit)) r ⌝ }
 {
     let mut digits = [0u8; 20];
-    let count = io::decimal(number as u64, &mut digits);
+    let count = io::decimal(number, &mut digits);
     put_bytes(out, used, &digits[..count])
+}
+
+// A number after a blank.
+pub fn put_next(out: &mut [u8], used: usize, number: u64) -> usize
+    requires { ⌜ Used (now out) used ⌝ }
+    ensures { λ r. ⌜ Used (now (out .exit)) r ⌝ }
+{
+    let blank = put_byte(out, used, b' ');
+    put_number(out, blank, number)
+}
+
+fn wide(number: u32) -> u64 {
+    number as u64
 }
 
 // The numbers of an answer after its first, each after a blank.
@@ -62,8 +75,7 @@ fn put_rest(out: &mut [u8], used: usize, answer: Answer) -> usize
     let mut at = used;
     let mut i = 1;
     while i < answer.count {
-        let blank = put_byte(out, at, b' ');
-        at = put_number(out, blank, words[i]);
+        at = put_next(out, at, wide(words[i]));
         i += 1;
     }
     at
@@ -79,7 +91,7 @@ pub fn put_answer(out: &mut [u8], used: usize, answer: Answer) -> usize
         return put_bytes(out, used, b"?\n");
     }
     let words = answer.words;
-    let first = put_number(out, used, words[0]);
+    let first = put_number(out, used, wide(words[0]));
     let last = put_rest(out, first, answer);
     put_byte(out, last, b'\n')
 }

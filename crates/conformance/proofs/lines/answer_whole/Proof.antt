@@ -1,23 +1,16 @@
--- The invariant: the buffers keep their lengths, and no more is held than there is room for. The measure is the turns that are left.
+-- The invariant: the buffer keeps its length, and no more is held than there is room for. The measure is the turns that are left.
 use Prim.Native.Nat.{_≤_}
 use mathlib.Core.Path.{_≡_}
-use native.Mathlib.Omega.{arith}
 use borrow.Author.Needs.{needs}
 use lib.ListN.{length}
 use Rattle.conformance.proofs.lines.answer_whole.Statement.{statement}
 use Rattle.conformance.proofs.lines.answer_whole.Tie as tie
 
 abbrev Inv-loop : tie.InvT-loop
-Inv-loop buffer₀ out₀ one₀ two₀ spare₀ held₀ turns₀ buffer out one two spare held turns =
-    (length buffer ≡ length buffer₀)
-    × (length out ≡ length out₀)
-    × (length one ≡ length one₀)
-    × (length two ≡ length two₀)
-    × (length spare ≡ length spare₀)
-    × (held ≤ length buffer)
+Inv-loop buffer₀ held₀ turns₀ buffer held turns = (length buffer ≡ length buffer₀) × (held ≤ length buffer)
 
 abbrev μ-loop : tie.MeasureT-loop
-μ-loop buffer₀ out₀ one₀ two₀ spare₀ held₀ turns₀ buffer out one two spare held turns = turns
+μ-loop buffer₀ held₀ turns₀ buffer held turns = turns
 
 pub answer-whole-spec : {M : Type 1} → statement M
 answer-whole-spec =
@@ -27,14 +20,6 @@ answer-whole-spec =
     μ-loop
     (λ c. search needs)
     (λ c κs. search needs)
-    (λ c. search needs)
-    (λ c. search needs)
-    (λ c. search needs)
-    (λ c. search needs)
-    (λ c. search needs)
-    (λ c. search needs)
-    (λ c. search needs)
-    (λ c. search needs)
     (λ c. search needs)
     (λ c. search needs)
     (λ c. search needs)

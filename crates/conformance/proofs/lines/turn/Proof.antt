@@ -8,8 +8,8 @@ use Rattle.conformance.proofs.lines.turn.Tie as tie
 
 keep-requires : tie.Need-keep-requires
 keep-requires c κs =
-    let filled = c .before .before .before .before .before .before .before .before .before .before .before .before .before .before .before .before .before .before .before .before .fill in
-    omega (arith, length-take-le (filled .result) (filled .last .0) (filled .ensures .1), filled .ensures, c .before .before .before .before .before .before .before .before .before .before .before .answer-lines .ensures)
+    let filled = c .before .before .before .before .before .before .fill in
+    omega (arith, length-take-le (filled .result) (filled .last .0) (filled .ensures .1))
 
 pub turn-spec : {M : Type 1} → statement M
 turn-spec =
@@ -21,12 +21,7 @@ turn-spec =
     (λ c. search needs)
     (λ c. sym (length-take-le _ _ (omega arith)))
     (λ c κs. search needs)
-    (λ c κs. search needs)
     keep-requires
     (λ c κs. search needs)
-    (λ c. search needs)
-    (λ c. search needs)
-    (λ c. search needs)
-    (λ c. search needs)
     (λ c. search needs)
     (λ c. search needs))

@@ -1,5 +1,5 @@
 -- The invariant: the buffer keeps its length, and no more of it is used than there is. The measure is the numbers that are left.
-use Prim.Native.Nat.{_≤_, _-_}
+use Prim.Native.Nat.{_-_}
 use mathlib.Core.Path.{_≡_}
 use native.Mathlib.Omega.{arith}
 use borrow.Author.Needs.{needs}
@@ -21,9 +21,9 @@ put-rest-spec =
     Inv-loop
     μ-loop
     (λ c. search needs)
-    (λ c κs. search needs)
     (λ c. omega arith)
     (λ c. omega arith)
+    (λ c κs. tt)
     (λ c κs. search needs)
     (λ c. omega arith)
     (λ c. omega arith)

@@ -3,8 +3,8 @@ use mathlib.Core.Path.{sym}
 use native.Mathlib.Omega.{arith}
 use borrow.Author.Needs.{needs}
 use lib.Seq.{length-take-le}
-use Rattle.conformance.proofs.lines.inputs_end.Statement.{statement}
-use Rattle.conformance.proofs.lines.inputs_end.Tie as tie
+use Rattle.conformance.proofs.answers.inputs_end.Statement.{statement}
+use Rattle.conformance.proofs.answers.inputs_end.Tie as tie
 
 returns-2 : tie.Need-returns-2
 returns-2 c = (omega arith, sym (length-take-le _ _ (omega arith)))
