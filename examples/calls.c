@@ -2,8 +2,8 @@
  * The calls that update.c does not make, each once, on the sign of the play program: two banks of 64 words, all ones but bank 1's
  * sequence word.
  *
- * It prints for each its name and what it gives, as the outside model's cases write it, and then what a script prints. Anything unexpected
- * ends it with status 1.
+ * It prints for each its name and what it gives, as the outside model's cases write it, and then a page sheet and what a script prints.
+ * Anything unexpected ends it with status 1.
  */
 #include <inttypes.h>
 #include <stdio.h>
@@ -102,6 +102,15 @@ static void plan_call(void)
     printf("plan %" PRIu32 " %" PRIu32 "\n", planned.decline, planned.wait);
 }
 
+static void sheet_call(yohrundel_device d)
+{
+    uint8_t sheet[YOHRUNDEL_SHEET_BYTES(1, 1)];
+    const yohrundel_page_sheet_answer written =
+        yohrundel_page_sheet(GEOMETRY, d, one, WORDS, two, WORDS, sheet, sizeof sheet);
+    expect(written.decline == YOHRUNDEL_ACCEPTED && written.bytes == sizeof sheet, "the answer to a sheet");
+    fwrite(sheet, 1, sizeof sheet, stdout);
+}
+
 /* Two words in byte lanes and back. */
 static void lanes_calls(void)
 {
@@ -141,6 +150,7 @@ int main(void)
     step_call(d);
     plan_call();
     lanes_calls();
+    sheet_call(d);
     script_calls(d);
     return EXIT_SUCCESS;
 }

@@ -20,7 +20,8 @@
  *   - a pointer that does not point to as many words or bytes as the count beside it says, or is not aligned for them;
  *     a null pointer goes with the count 0 only, and the device of yohrundel_turn_lent is never null;
  *   - lent memory that overlaps other lent memory where one of the two is written: the two banks, the device of yohrundel_turn_lent,
- *     the buffer of yohrundel_play and the target of byte lanes are; where both are only read, they may overlap;
+ *     the buffers of yohrundel_play and yohrundel_page_sheet and the target of byte lanes are; where both are only read, they may
+ *     overlap;
  *   - lent memory that another thread changes during the call.
  *
  * Sizes
@@ -43,6 +44,9 @@ extern "C" {
 #define YOHRUNDEL_PAGE_WORDS(q) (32 * (q))
 #define YOHRUNDEL_BANK_WORDS(q, b, p) (((b) + (p)) * YOHRUNDEL_PAGE_WORDS(q))
 #define YOHRUNDEL_MOST_SRAM_WORDS 16384
+
+/* Bytes of a page sheet. */
+#define YOHRUNDEL_SHEET_BYTES(b, p) (34 * ((b) + (p)))
 
 /*
  * The index in a bank of its sequence word: word 0 of the last quad of the last boot page. Its low 16 bits are T, its high 16 bits C;
@@ -97,6 +101,8 @@ enum yohrundel_decline {
     YOHRUNDEL_DECLINE_HOURS = 15,
     /* A plan that no wait fits. */
     YOHRUNDEL_DECLINE_NO_WAIT = 16,
+    /* A buffer that is shorter than the page sheet. */
+    YOHRUNDEL_DECLINE_SHEET_BUFFER = 18,
     /* Byte lanes whose source and target differ in length, or have no multiple of 4 bytes. */
     YOHRUNDEL_DECLINE_LANES = 22
 };
@@ -278,6 +284,13 @@ typedef struct yohrundel_plan_answer {
     uint32_t wait;
 } yohrundel_plan_answer;
 
+/* The answer to a page sheet. */
+typedef struct yohrundel_page_sheet_answer {
+    uint32_t decline;
+    /* The bytes of the sheet, 34×N; 0 where declined. */
+    size_t bytes;
+} yohrundel_page_sheet_answer;
+
 /*
  * ---- calls on a device alone
  *
@@ -415,6 +428,21 @@ yohrundel_play_length_answer yohrundel_play_length(
  * Declines 15 and 16.
  */
 yohrundel_plan_answer yohrundel_plan(uint32_t minute, uint32_t duration, const uint32_t *windows, size_t count);
+
+/*
+ * ---- the call for a page sheet
+ *
+ * A sheet has one line a page, bank 1 then bank 2, boot then program, ascending: bank, blank, B or P, blank, page of its kind from 0 in
+ * three columns right-aligned, blank, L or U for its present side, blank, 1 if protected else 0, blank, quads that aren't all ones in four
+ * columns right-aligned, line feed. Each line is 17 bytes, and the sheet 34×N. Number padding is blanks.
+ */
+
+/* Writes a sheet to the front of out, without a null byte at its end; bytes past it keep their contents. Declines 1, 2, 3 and 18. */
+yohrundel_page_sheet_answer yohrundel_page_sheet(
+    yohrundel_geometry g, yohrundel_device d,
+    const uint32_t *one, size_t one_words,
+    const uint32_t *two, size_t two_words,
+    uint8_t *out, size_t out_bytes);
 
 /*
  * ---- calls for byte lanes

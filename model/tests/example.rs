@@ -5,6 +5,7 @@ use model::device::{Device, BFSWAP, NVMCON, PFSWAP};
 use model::flash::reset;
 use model::geometry::Banks;
 use model::script::play;
+use model::sheet::page_sheet;
 use model::store::start_up;
 use model::update::{turn, update_start};
 use std::fmt::Write;
@@ -127,6 +128,19 @@ const RUNNING: &str = "57346 0 486539392 1 2 3 4 0 2147483648 40927 2031616 0 0"
 /// The banks of the play program.
 const BANKS: &str = "64 4294967295 1 28 4294836225 64 4294967295 0";
 
+/// The page sheet of the play program's sign.
+fn sheet() -> String {
+    let (mut one, mut two) = (vec![!0; WORDS], vec![!0; WORDS]);
+    one[SEQUENCE] = 0xFFFE_0001;
+    let banks = Banks {
+        one: &mut one,
+        two: &mut two,
+    };
+    let mut buffer = vec![0; 68];
+    page_sheet(NUMBERS, &Device::reset_values(), &banks, &mut buffer).unwrap();
+    String::from_utf8(buffer).unwrap()
+}
+
 #[test]
 fn calls() {
     let stored_address = IDLE.replacen("0 0 0", "0 0 486539392", 1);
@@ -145,6 +159,7 @@ fn calls() {
         let name = case.split(' ').next().unwrap();
         writeln!(text, "{name} {}", answer_line(case)).unwrap();
     }
+    text += &sheet();
     let worked_example = concat!(env!("CARGO_MANIFEST_DIR"), "/../crates/play/stdin");
     text += &play(&std::fs::read(worked_example).unwrap());
     assert_eq!(text, stored("calls.out"));

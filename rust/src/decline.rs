@@ -38,13 +38,15 @@ pub enum Decline {
     Hours = 15,
     /// No wait fits a plan.
     NoWait = 16,
+    /// A buffer that is shorter than the page sheet.
+    SheetBuffer = 18,
     /// Byte lanes whose source and target differ in length, or have no multiple of 4 bytes.
     Lanes = 22,
 }
 
 impl Decline {
     /// All of them, in the order of their numbers.
-    pub const ALL: [Decline; 17] = [
+    pub const ALL: [Decline; 18] = [
         Decline::Geometry,
         Decline::Length,
         Decline::Device,
@@ -61,6 +63,7 @@ impl Decline {
         Decline::Script,
         Decline::Hours,
         Decline::NoWait,
+        Decline::SheetBuffer,
         Decline::Lanes,
     ];
 
@@ -87,6 +90,7 @@ impl Decline {
             Decline::Script => "the script is malformed",
             Decline::Hours => "a number of the plan is out of range",
             Decline::NoWait => "no wait fits",
+            Decline::SheetBuffer => "the buffer is shorter than the sheet",
             Decline::Lanes => "the two lengths differ or are no multiple of 4",
         }
     }

@@ -8,9 +8,11 @@
 
 mod lanes;
 mod plan;
+mod sheet;
 
 pub(crate) use lanes::{lanes_back, lanes_out};
 pub(crate) use plan::plan;
+pub(crate) use sheet::page_sheet;
 
 use crate::{Device, Geometry};
 

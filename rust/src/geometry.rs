@@ -37,6 +37,11 @@ impl Geometry {
         Ok(self.b as usize * self.page_words()? - 4)
     }
 
+    /// The bytes of a page sheet: 34×N.
+    pub fn sheet_bytes(self) -> Result<usize, Decline> {
+        Ok(34 * self.pages()?)
+    }
+
     /// Decline 1, asked of the library: no bank has 0 words, so a page of one is declined by 1 or by 2.
     fn judge(self) -> Result<(), Decline> {
         match Decline::judge(ffi::page(self, &[], 0).decline) {

@@ -33,6 +33,7 @@ mod lanes;
 mod numbers;
 mod plan;
 mod script_calls;
+mod sheet;
 mod update_calls;
 
 pub use bank_calls::{flash_read, lower_bank, page, reset, step, Stepped};
@@ -44,4 +45,5 @@ pub use lanes::{lanes_back, lanes_out};
 pub use numbers::{form, nvmcon, register, reset_kind};
 pub use plan::plan;
 pub use script_calls::{play, play_length, Played};
+pub use sheet::page_sheet;
 pub use update_calls::{turn, turn_lent, update_start, Started, TurnOutcome, Turned};

@@ -8,6 +8,7 @@ mod clock;
 mod lanes;
 mod rounds;
 mod scripts;
+mod sheets;
 mod turns;
 mod updates;
 
@@ -20,4 +21,5 @@ fn main() {
     updates::by_size();
     scripts::beside_the_model();
     lanes::beside_plain_loops();
+    sheets::beside_the_model();
 }

@@ -1,6 +1,6 @@
 //! Cases of the calls that write bytes alone.
 
-use yohrundel::Decline;
+use yohrundel::{page_sheet, Decline};
 
 use crate::answers::{changes, text, Answer};
 use crate::inputs::Inputs;
@@ -19,6 +19,15 @@ fn on_bytes(bytes: &[u8], call: impl FnOnce(&mut [u8]) -> Answer) -> String {
         Err(decline) if count == 0 => decline.number().to_string(),
         Err(decline) => format!("{}, but {count} bytes changed", decline.number()),
     }
+}
+
+pub fn sheet_case(inputs: &mut Inputs) -> String {
+    let (sign, device) = (inputs.geometry(), inputs.device());
+    let (one, two, buffer) = (inputs.list(), inputs.list(), inputs.bytes());
+    on_bytes(&buffer, |buffer| {
+        let bytes = page_sheet(sign, device, &one, &two, buffer)?;
+        Ok(vec![bytes as u64])
+    })
 }
 
 /// One of the ways of the byte lanes.

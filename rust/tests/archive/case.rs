@@ -8,7 +8,7 @@ use yohrundel::*;
 
 use crate::answers::{device_and_event, device_numbers, text, Answer};
 use crate::bank_cases::{play_case, reset_case, step_case, turn_case};
-use crate::byte_cases::lanes_case;
+use crate::byte_cases::{lanes_case, sheet_case};
 use crate::inputs::Inputs;
 use crate::rules::{compare, possible, protected};
 
@@ -47,6 +47,7 @@ fn call(name: &str, inputs: &mut Inputs) -> String {
         "play" => play_case(inputs),
         "play_length" => text(&play_length_case(inputs)),
         "plan" => text(&plan_case(inputs)),
+        "page_sheet" => sheet_case(inputs),
         "lanes_out" => lanes_case(inputs, lanes_out),
         "lanes_back" => lanes_case(inputs, lanes_back),
         _ => panic!("no case of a call: {name}"),

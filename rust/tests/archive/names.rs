@@ -2,6 +2,7 @@
 
 use model::device::{self as outside, RESETS};
 use model::geometry::Geometry as OutsideGeometry;
+use model::sheet::sheet_bytes;
 use model::store as forms;
 use model::Refusal;
 use yohrundel::{form, nvmcon, register, Decline, Device, Geometry};
@@ -17,14 +18,16 @@ fn sizes_of_every_geometry() {
                     sign.page_words(),
                     sign.bank_words(),
                     sign.sequence_index(),
+                    sign.sheet_bytes(),
                 ];
                 let expected = OutsideGeometry::new([q, b, p]).map(|sign| {
-                    let index = sign.sequence_index() as u32;
-                    [sign.pages(), sign.page_words(), sign.bank_words(), index]
+                    let (index, sheet) = (sign.sequence_index() as u32, sheet_bytes(&sign));
+                    let (pages, bank) = (sign.pages(), sign.bank_words());
+                    [pages, sign.page_words(), bank, index, sheet]
                 });
                 match expected {
                     Ok(expected) => assert_eq!(sizes, expected.map(|size| Ok(size as usize))),
-                    Err(_) => assert_eq!(sizes, [Err(Decline::Geometry); 4]),
+                    Err(_) => assert_eq!(sizes, [Err(Decline::Geometry); 5]),
                 }
             }
         }
@@ -50,6 +53,7 @@ fn numbers_of_the_declines() {
         Refusal::Script,
         Refusal::WeekRange,
         Refusal::NoWait,
+        Refusal::SheetBuffer,
         Refusal::LaneLengths,
     ];
     assert_eq!(

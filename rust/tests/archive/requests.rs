@@ -9,14 +9,6 @@ use yohrundel::{plan, Decline};
 use crate::case::check;
 use crate::settings::{cases, seed, Report};
 
-/// The calls of which cases are run.
-const CALLS: [Call; 3] = [Call::Plan, Call::LanesOut, Call::LanesBack];
-
-fn random_cases(seed: u64, most_words: u32) -> impl Iterator<Item = Case> {
-    let cases = Cases::of_requests(seed, most_words);
-    cases.filter(|case| CALLS.contains(&case.call))
-}
-
 fn check_case(case: &Case) {
     let expected = case.answer().expect("a case that the model knows");
     check(&case.inputs(), &expected);
@@ -26,7 +18,7 @@ fn check_random(seed: u64, most_words: u32, count: usize) {
     let report = Report::new(format!(
         "requests on banks of up to {most_words} words, seed {seed}"
     ));
-    for case in random_cases(seed, most_words).take(count) {
+    for case in Cases::of_requests(seed, most_words).take(count) {
         check_case(&case);
     }
     report.finish(format_args!("{count} cases"));
@@ -45,32 +37,25 @@ fn random_long_requests() {
 #[test]
 fn directed_requests() {
     let report = Report::new(String::from("directed requests"));
-    let all = directed::request_cases().into_iter();
-    let run = all.filter(|(_, case)| CALLS.contains(&case.call));
-    let count = run.map(|(_, case)| check_case(&case)).count();
-    assert!(count > 0);
-    report.finish(format_args!("{count} cases"));
+    let all = directed::request_cases();
+    for (_, case) in &all {
+        check_case(case);
+    }
+    report.finish(format_args!("{} cases", all.len()));
 }
 
 #[test]
 fn stored_requests() {
     let report = Report::new(String::from("stored requests"));
     let folder = Path::new(env!("CARGO_MANIFEST_DIR")).join("../model/vectors/requests");
-    let names = CALLS.map(|call| call.shape().name);
     let mut count = 0;
     for entry in std::fs::read_dir(folder).expect("the stored requests") {
         let path = entry.expect("a stored file").path();
         let text = std::fs::read_to_string(path).expect("stored requests");
         for line in text.lines() {
             let (inputs, expected) = line.split_once(" | ").expect("a bar");
-            if inputs
-                .split(' ')
-                .next()
-                .is_some_and(|name| names.contains(&name))
-            {
-                check(inputs, expected);
-                count += 1;
-            }
+            check(inputs, expected);
+            count += 1;
         }
     }
     assert!(count > 0);
@@ -82,7 +67,7 @@ fn stored_requests() {
 fn odd_lists_of_windows() {
     let (seed, count) = (seed(10), cases(20));
     let report = Report::new(format!("plans with an odd list, seed {seed}"));
-    let plans = random_cases(seed, 0).filter(|case| case.call == Call::Plan);
+    let plans = Cases::of_requests(seed, 0).filter(|case| case.call == Call::Plan);
     for case in plans.take(count) {
         let [minute, duration, _, windows @ ..] = &case.numbers[..] else {
             panic!("no case of a plan");
