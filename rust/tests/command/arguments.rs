@@ -5,7 +5,7 @@ use std::os::unix::ffi::OsStrExt;
 
 use crate::run::{file, run};
 
-const COMMANDS: [&str; 5] = ["play", "update", "cut", "plan", "lanes"];
+const COMMANDS: [&str; 6] = ["play", "update", "cut", "plan", "lanes", "sheet"];
 
 #[test]
 fn help_names_every_command() {
@@ -103,6 +103,21 @@ fn arguments_that_are_not_understood() {
     wrong("lanes forth -", "the way is \"forth\", not out or back");
     wrong("lanes out", "FILE is missing");
     wrong("lanes out - -", "\"-\" is one argument too many");
+    wrong("sheet 1 1 1 -", "BANK2 is missing");
+    wrong(
+        "sheet 1 1 1 - - --nvmcon",
+        "the value of --nvmcon is missing",
+    );
+    let reason = "the value of --nvmpwp is \"x\", not a hexadecimal word";
+    wrong("sheet 1 1 1 - - --nvmpwp x", reason);
+    wrong(
+        "sheet 1 1 1 - - --nvmkey 0",
+        "there is no option \"--nvmkey\"",
+    );
+    wrong(
+        "sheet 1 1 1 - - --nvmcon 0 -",
+        "\"-\" is one argument too many",
+    );
 }
 
 /// Arguments that are declined, with the status 1.
@@ -120,6 +135,7 @@ fn declined_arguments() {
     ] {
         declined(&format!("update {geometry}"), reason);
         declined(&format!("cut {geometry} 0 0"), reason);
+        declined(&format!("sheet {geometry} - -"), reason);
     }
     let reason = "13: the place exceeds the total: PLACE is 253, the total 252";
     declined("cut 1 1 1 253 0", reason);

@@ -8,4 +8,5 @@ mod plan;
 mod play;
 mod readme;
 mod run;
+mod sheet;
 mod updates;

@@ -30,6 +30,14 @@ impl<'a> Arguments<'a> {
         Ok(Some(argument))
     }
 
+    /// The next argument where it is the name of one of the options, and what stands for it.
+    pub fn option<T: Copy>(&mut self, options: &[(&'static str, T)]) -> Option<(&'static str, T)> {
+        let next = self.rest.as_slice().first()?;
+        let option = options.iter().find(|(name, _)| next == name)?;
+        self.rest.next();
+        Some(*option)
+    }
+
     pub fn required(&mut self, name: &str) -> Result<&'a OsStr, Failure> {
         let missing = || Failure::arguments(format!("{name} is missing"));
         self.optional()?.ok_or_else(missing)

@@ -10,8 +10,8 @@ mod picture;
 mod plan;
 mod play;
 mod progress;
-mod protection;
 mod resets;
+mod sheet;
 mod sign;
 mod times;
 mod torn;
@@ -33,6 +33,7 @@ const COMMANDS: &[Command] = &[
     cut::COMMAND,
     plan::COMMAND,
     lanes::COMMAND,
+    sheet::COMMAND,
 ];
 
 fn main() -> ExitCode {

@@ -2,7 +2,7 @@
 
 use yohrundel::{page, Bank, Decline};
 
-use crate::protection::protected;
+use crate::sheet::protected_pages;
 use crate::sign::Sign;
 
 const OLD: char = 'o';
@@ -69,9 +69,11 @@ fn page_contents(sign: &Sign, bank: Bank, number: u32) -> Result<char, Decline> 
 }
 
 fn protection(sign: &Sign, bank: Bank) -> Result<String, Decline> {
-    let pages = 0..sign.geometry.pages()? as u32;
-    let is_protected = |page| protected(sign.geometry, &sign.device, bank, page);
-    Ok(pages.map(|page| mark(is_protected(page))).collect())
+    let [one, two] = &sign.banks;
+    let protected = protected_pages(sign.geometry, sign.device, one, two)?;
+    let (first, second) = protected.split_at(sign.geometry.pages()?);
+    let pages = if bank == Bank::One { first } else { second };
+    Ok(pages.iter().copied().map(mark).collect())
 }
 
 fn mark(protected: bool) -> char {

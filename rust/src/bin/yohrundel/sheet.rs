@@ -1,0 +1,88 @@
+//! `yohrundel sheet`: the state of a sign, a line a page.
+
+use yohrundel::reset_kind::POWER_ON;
+use yohrundel::{page_sheet, reset, start_up, Decline, Device, Geometry};
+
+use crate::arguments::{hexadecimal, Arguments};
+use crate::command::Command;
+use crate::failure::{Answer, Failure};
+use crate::files;
+
+pub const COMMAND: Command = Command {
+    name: "sheet",
+    arguments: "Q B P BANK1 BANK2 [OPTION..]",
+    summary: "prints the state of a sign",
+    details: "\
+Q, B and P are the sign's sizes, as for yohrundel update. BANK1 and BANK2 are
+files of words, lowest byte first, each exactly one bank long; - is standard
+input. The sign's state is that after power-on and start-up, but for registers
+that an OPTION sets: --nvmcon HEX, --nvmpwp HEX or --nvmbwp HEX.
+It prints a line for each page, bank 1 then bank 2, boot then program: the bank,
+B or P, the page of its kind, L or U for its side, 1 if protected else 0, and
+how many of its quads aren't blank.",
+    run,
+};
+
+/// The bytes of a line.
+const LINE: usize = 17;
+
+/// The column of a line that has 1 if the page is protected.
+const PROTECTED: usize = 10;
+
+fn run(mut arguments: Arguments) -> Answer {
+    let geometry = arguments.geometry()?;
+    let one = arguments.required("BANK1")?;
+    let two = arguments.required("BANK2")?;
+    let registers = take_registers(&mut arguments)?;
+    arguments.end()?;
+    let (one, two) = (files::bank(geometry, one)?, files::bank(geometry, two)?);
+    let mut device = started(geometry, one.clone(), two.clone())?;
+    for (register, value) in registers {
+        *register(&mut device) = value;
+    }
+    Ok(sheet(geometry, device, &one, &two)?)
+}
+
+/// A register of a device.
+type Register = fn(&mut Device) -> &mut u32;
+
+const REGISTERS: [(&str, Register); 3] = [
+    ("--nvmcon", |device| &mut device.nvmcon),
+    ("--nvmpwp", |device| &mut device.nvmpwp),
+    ("--nvmbwp", |device| &mut device.nvmbwp),
+];
+
+fn take_registers(arguments: &mut Arguments) -> Result<Vec<(Register, u32)>, Failure> {
+    let mut registers = Vec::new();
+    while let Some((name, register)) = arguments.option(&REGISTERS) {
+        let name = format!("the value of {name}");
+        let value = arguments.form(&name, "a hexadecimal word", hexadecimal)?;
+        registers.push((register, value));
+    }
+    Ok(registers)
+}
+
+/// The device after power-on and start-up. No operation runs, so no word changes.
+fn started(geometry: Geometry, mut one: Vec<u32>, mut two: Vec<u32>) -> Result<Device, Decline> {
+    let (device, one, two) = (Device::power_on(), &mut one, &mut two);
+    let device = reset(geometry, device, one, two, &[], POWER_ON, [0; 4])?;
+    start_up(geometry, device)
+}
+
+fn sheet(geometry: Geometry, device: Device, one: &[u32], two: &[u32]) -> Result<Vec<u8>, Decline> {
+    let mut sheet = vec![0; 2 * geometry.pages()? * LINE];
+    page_sheet(geometry, device, one, two, &mut sheet)?;
+    Ok(sheet)
+}
+
+/// Whether each page is protected, those of bank 1 and then those of bank 2.
+pub fn protected_pages(
+    geometry: Geometry,
+    device: Device,
+    one: &[u32],
+    two: &[u32],
+) -> Result<Vec<bool>, Decline> {
+    let sheet = sheet(geometry, device, one, two)?;
+    let lines = sheet.chunks(LINE);
+    Ok(lines.map(|line| line[PROTECTED] == b'1').collect())
+}
