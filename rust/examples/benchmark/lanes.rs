@@ -61,6 +61,32 @@ impl Side for Way<'_> {
     }
 }
 
+/// The way out of a source and the way back.
+struct Both<'a> {
+    out: Way<'a>,
+    back: fn(&[u8], &mut [u8]),
+    target: Aligned,
+}
+
+impl<'a> Both<'a> {
+    fn new(out: fn(&[u8], &mut [u8]), back: fn(&[u8], &mut [u8]), source: &'a [u8]) -> Both<'a> {
+        Both {
+            out: Way::new(out, source),
+            back,
+            target: Aligned::new(source.len()),
+        }
+    }
+}
+
+impl Side for Both<'_> {
+    fn restart(&mut self) {}
+
+    fn run(&mut self, slice: u32) {
+        self.out.run(slice);
+        (self.back)(self.out.target.bytes(), self.target.bytes_mut());
+    }
+}
+
 fn plain_out(source: &[u8], target: &mut [u8]) {
     let words = source.len() / 4;
     for word in 0..words {
@@ -108,6 +134,9 @@ pub fn beside_plain_loops() {
     let back_times = rounds([&mut back, &mut plain], PASSES);
     assert!(back.target.bytes() == image, "the image");
     assert!(plain.target.bytes() == image, "the image of the plain loop");
+    let mut both = Both::new(archive_out, archive_back, image);
+    let mut plain = Both::new(plain_out, plain_back, image);
+    let both_times = rounds([&mut both, &mut plain], PASSES);
     let bytes = image.len() as u32;
     println!(
         "image of {bytes} bytes: its lanes are those of a plain loop, and back it is the same"
@@ -121,6 +150,12 @@ pub fn beside_plain_loops() {
     report(
         "byte lanes, back, beside a plain loop",
         &back_times,
+        "byte",
+        [PASSES * bytes; 2],
+    );
+    report(
+        "byte lanes, out and back, beside plain loops",
+        &both_times,
         "byte",
         [PASSES * bytes; 2],
     );
