@@ -1,0 +1,4 @@
+// The calls of the later requests: each is made for the inputs of a case, and its answer written.
+pub mod names;
+mod plan_call;
+pub mod requests;
