@@ -3,6 +3,8 @@ use conformance_cases::bytes::same;
 
 pub enum Request {
     Plan,
+    LanesOut,
+    LanesBack,
     Unknown,
 }
 
@@ -10,6 +12,12 @@ impl Request {
     pub fn of(name: &[u8]) -> Request {
         if same(name, b"plan") {
             return Request::Plan;
+        }
+        if same(name, b"lanes_out") {
+            return Request::LanesOut;
+        }
+        if same(name, b"lanes_back") {
+            return Request::LanesBack;
         }
         Request::Unknown
     }

@@ -1,6 +1,7 @@
 // From a request's inputs to its answer.
 // What asks for bytes within the output is no call of the device: its callers show it.
 ghost use Rattle.conformance_cases.specs.Output.{Used};
+use crate::lanes_calls::put_lanes;
 use crate::names::Request;
 use crate::plan_call::plan_answer;
 use conformance_cases::answer::Answer;
@@ -14,12 +15,14 @@ pub fn put_request(
     out: &mut [u8],
     used: usize,
     one: &mut [u32],
+    two: &mut [u32],
 ) -> usize
     requires { ⌜ Used (now out) used ⌝ }
     ensures { λ r. ⌜ Used (now (out .exit)) r ⌝ }
 {
     match request {
         Request::Plan => put_answer(out, used, plan_answer(line, at, one)),
+        Request::LanesOut | Request::LanesBack => put_lanes(request, line, at, out, used, one, two),
         Request::Unknown => put_answer(out, used, Answer::no_case()),
     }
 }
