@@ -8,6 +8,8 @@ use conformance_calls::names::Call;
 use conformance_cases::bytes::find;
 use conformance_cases::output::flush;
 use conformance_cases::output::put_answer;
+use conformance_requests::names::Request;
+use conformance_requests::requests::put_request;
 
 // The longest list that can be lent, in words. A bank has at most 282,624.
 const LONGEST_LIST: usize = 300000;
@@ -46,8 +48,12 @@ fn put_line(
     let end = inputs_end(line);
     let inputs = &line[..end];
     let after = find(inputs, 0, b' ');
-    let call = Call::of(&inputs[..after]);
-    let given = call_answer(call, inputs, after, one, two, spare);
+    let name = &inputs[..after];
+    let request = Request::of(name);
+    if request.is_known() {
+        return put_request(request, inputs, after, out, used, one, two);
+    }
+    let given = call_answer(Call::of(name), inputs, after, one, two, spare);
     put_answer(out, used, given)
 }
 

@@ -1,0 +1,35 @@
+-- The copies and the call keep the lengths, so each list lies within its bytes.
+use mathlib.Core.Path.{sym}
+use native.Mathlib.Nat.{min-le-left}
+use borrow.Author.Needs.{needs}
+use lib.ListN.{length-take}
+use lib.Seq.{length-take-le}
+use Rattle.conformance_requests.proofs.lanes_calls.put_copied.Statement.{statement}
+use Rattle.conformance_requests.proofs.lanes_calls.put_copied.Tie as tie
+
+pub put-copied-spec : {M : Type 1} → statement M
+put-copied-spec =
+    tie.close
+    (tie.spec
+    (λ c κs. search needs)
+    (λ c κs. search needs)
+    (λ c. search needs)
+    (λ c. sym (length-take-le _ _ (search needs)))
+    (λ c. search needs)
+    (λ c. sym (length-take-le _ _ (search needs)))
+    (λ c κs. search needs)
+    (λ c κs. search needs)
+    (λ c κs. search needs)
+    (λ c κs. search needs)
+    (λ c κs. search needs)
+    (λ c. search needs)
+    (λ c. search needs)
+    (λ c. search needs)
+    (λ c. search needs)
+    (λ c. search needs)
+    (λ c. sym (length-take-le _ _ (search needs)))
+    (λ c κs. (search needs, rw length-take (min-le-left _ _)))
+    (λ c. search needs)
+    (λ c. search needs)
+    (λ c. search needs)
+    (λ c. search needs))

@@ -1,0 +1,32 @@
+// The requests' calls by their names.
+use conformance_cases::bytes::same;
+
+pub enum Request {
+    Plan,
+    LanesOut,
+    LanesBack,
+    Unknown,
+}
+
+impl Request {
+    pub fn of(name: &[u8]) -> Request {
+        if same(name, b"plan") {
+            return Request::Plan;
+        }
+        if same(name, b"lanes_out") {
+            return Request::LanesOut;
+        }
+        if same(name, b"lanes_back") {
+            return Request::LanesBack;
+        }
+        Request::Unknown
+    }
+
+    // Whether a request's call has the name.
+    pub fn is_known(self) -> bool {
+        match self {
+            Request::Unknown => false,
+            _ => true,
+        }
+    }
+}
