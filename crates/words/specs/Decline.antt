@@ -4,7 +4,7 @@ use mathlib.Core.Bool.{Bool}
 use lib.Dec.{eqb}
 use Rattle.words.specs.Word.{pick}
 use Rattle.words.specs.declared.decline.Decline.{Decline}
-use Rattle.words.specs.declared.decline.Decline.the-variants.{Accepted, Geometry, Length, Device, Register, Running, Idle, ResetKind, Address, Busy, Sequence, LastSequence, Protection, Place, Script, Hours, NoWait, Lanes}
+use Rattle.words.specs.declared.decline.Decline.the-variants.{Accepted, Geometry, Length, Device, Register, Running, Idle, ResetKind, Address, Busy, Sequence, LastSequence, Protection, Place, Script, Hours, NoWait, SheetBuffer, Lanes}
 
 abbrev pub numberOf : Decline → ℕ
 numberOf Accepted = 0
@@ -24,6 +24,7 @@ numberOf Place = 13
 numberOf Script = 14
 numberOf Hours = 15
 numberOf NoWait = 16
+numberOf SheetBuffer = 18
 numberOf Lanes = 22
 
 -- the call was carried out

@@ -1,0 +1,5 @@
+pub mod AcceptedLaws
+pub mod MapLaws
+pub mod StateLaws
+pub mod WidthLaws
+pub mod PutLaws

@@ -1,0 +1,4 @@
+pub mod State
+pub mod Line
+pub mod Sheet
+pub mod Widths
