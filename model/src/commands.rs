@@ -29,7 +29,7 @@ pub fn run(words: &[&str]) -> Option<io::Result<bool>> {
         ["directed", subject] => Some(print_directed(directed::cases(), subject)),
         ["directed_requests"] => Some(print_directed(directed::request_cases(), "")),
         ["directed_requests", subject] => Some(print_directed(directed::request_cases(), subject)),
-        ["complete", file] => Some(complete(file)),
+        ["complete", files @ ..] if !files.is_empty() => Some(complete(files)),
         ["cases", seed, count] => cases(Cases::new, seed, count, DEFAULT_WORDS),
         ["cases", seed, count, most] => cases(Cases::new, seed, count, most.parse().ok()?),
         ["requests", seed, count] => cases(Cases::of_requests, seed, count, DEFAULT_WORDS),
@@ -150,8 +150,8 @@ fn print_directed(cases: Vec<(&str, Case)>, subject: &str) -> io::Result<bool> {
     Ok(count > 0)
 }
 
-/// The lines of the input, then the cases of a file and the directed ones that are not among them.
-fn complete(file: &str) -> io::Result<bool> {
+/// The lines of the input, then the cases of files and the directed ones that are not among them.
+fn complete(files: &[&str]) -> io::Result<bool> {
     let mut bytes = Vec::new();
     io::stdin().lock().read_to_end(&mut bytes)?;
     // The last line stays without a line feed; the conformance program takes it so.
@@ -160,10 +160,14 @@ fn complete(file: &str) -> io::Result<bool> {
     }
     let text = String::from_utf8_lossy(&bytes).into_owned();
     let mut seen: HashSet<&str> = text.lines().map(left_of_bar).collect();
-    let stored = std::fs::read_to_string(file)?;
-    let directed = directed::cases();
-    let directed: Vec<String> = directed.iter().map(|(_, case)| case.inputs()).collect();
-    for line in stored.lines().chain(directed.iter().map(String::as_str)) {
+    let stored: io::Result<Vec<String>> = files.iter().map(std::fs::read_to_string).collect();
+    let stored = stored?;
+    let directed = directed::cases()
+        .into_iter()
+        .chain(directed::request_cases());
+    let directed: Vec<String> = directed.map(|(_, case)| case.inputs()).collect();
+    let stored = stored.iter().flat_map(|text| text.lines());
+    for line in stored.chain(directed.iter().map(String::as_str)) {
         if seen.insert(left_of_bar(line)) {
             bytes.push(b'\n');
             bytes.extend_from_slice(line.as_bytes());

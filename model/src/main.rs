@@ -13,7 +13,7 @@ const USAGE: &str = "usage:
   model play_bundle
   model directed [SUBJECT]
   model directed_requests [SUBJECT]
-  model complete FILE
+  model complete FILE...
   model cases SEED COUNT [MAX_WORDS]
   model requests SEED COUNT [MAX_WORDS]
   model script SEED [damaged]

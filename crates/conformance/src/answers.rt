@@ -51,7 +51,7 @@ fn put_line(
     let name = &inputs[..after];
     let request = Request::of(name);
     if request.is_known() {
-        return put_request(request, inputs, after, out, used, one, two);
+        return put_request(request, inputs, after, out, used, one, two, spare);
     }
     let given = call_answer(Call::of(name), inputs, after, one, two, spare);
     put_answer(out, used, given)

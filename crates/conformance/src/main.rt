@@ -1,13 +1,13 @@
 // Reads cases from standard input, one to a line, and writes what each call gives.
 mod answers;
-mod lines;
+mod input;
 
 // The longest line that can be a case, with its line feed.
 const LONGEST_LINE: usize = 1048576;
 
 // Lends the array as a slice. In main itself its length would have to be counted out element by element.
 fn run(buffer: &mut [u8; LONGEST_LINE]) {
-    lines::answer_all(buffer);
+    input::answer_all(buffer);
 }
 
 fn main() {

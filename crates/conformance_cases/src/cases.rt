@@ -50,7 +50,7 @@ fn take_rest(lists: usize, line: &[u8], at: usize, spare: &mut [u32], most: usiz
     }
 }
 
-fn all(first: bool, second: bool, third: bool) -> bool {
+pub fn all(first: bool, second: bool, third: bool) -> bool {
     first && second && third
 }
 

@@ -8,6 +8,7 @@ use crate::byte_lists::copy;
 use crate::byte_lists::put_changes;
 use crate::names::Request;
 use conformance_cases::answer::Answer;
+use conformance_cases::cases::all;
 use conformance_cases::lists::take_byte_list;
 use conformance_cases::output::put_answer;
 use conformance_cases::output::put_byte;
@@ -91,13 +92,7 @@ pub fn put_lanes(
 {
     let source = take_byte_list(line, at, one, LONGEST);
     let target = take_byte_list(line, source.next, two, LONGEST);
-    if !source.is_right {
-        return put_answer(out, used, Answer::no_case());
-    }
-    if !target.is_right {
-        return put_answer(out, used, Answer::no_case());
-    }
-    if target.next != line.len() {
+    if !all(source.is_right, target.is_right, target.next == line.len()) {
         return put_answer(out, used, Answer::no_case());
     }
     let sent = source.length;

@@ -4,3 +4,4 @@ mod lanes_calls;
 pub mod names;
 mod plan_call;
 pub mod requests;
+mod sheet_call;

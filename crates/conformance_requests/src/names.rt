@@ -5,6 +5,7 @@ pub enum Request {
     Plan,
     LanesOut,
     LanesBack,
+    PageSheet,
     Unknown,
 }
 
@@ -18,6 +19,9 @@ impl Request {
         }
         if same(name, b"lanes_back") {
             return Request::LanesBack;
+        }
+        if same(name, b"page_sheet") {
+            return Request::PageSheet;
         }
         Request::Unknown
     }

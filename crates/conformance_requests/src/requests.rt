@@ -4,6 +4,7 @@ ghost use Rattle.conformance_cases.specs.Output.{Used};
 use crate::lanes_calls::put_lanes;
 use crate::names::Request;
 use crate::plan_call::plan_answer;
+use crate::sheet_call::put_page_sheet;
 use conformance_cases::answer::Answer;
 use conformance_cases::output::put_answer;
 
@@ -16,6 +17,7 @@ pub fn put_request(
     used: usize,
     one: &mut [u32],
     two: &mut [u32],
+    spare: &mut [u32],
 ) -> usize
     requires { ⌜ Used (now out) used ⌝ }
     ensures { λ r. ⌜ Used (now (out .exit)) r ⌝ }
@@ -23,6 +25,7 @@ pub fn put_request(
     match request {
         Request::Plan => put_answer(out, used, plan_answer(line, at, one)),
         Request::LanesOut | Request::LanesBack => put_lanes(request, line, at, out, used, one, two),
+        Request::PageSheet => put_page_sheet(line, at, out, used, one, two, spare),
         Request::Unknown => put_answer(out, used, Answer::no_case()),
     }
 }

@@ -3,8 +3,8 @@ use mathlib.Core.Path.{sym}
 use native.Mathlib.Omega.{arith}
 use borrow.Author.Needs.{needs}
 use lib.Seq.{length-take-le}
-use Rattle.conformance.proofs.lines.turn.Statement.{statement}
-use Rattle.conformance.proofs.lines.turn.Tie as tie
+use Rattle.conformance.proofs.input.turn.Statement.{statement}
+use Rattle.conformance.proofs.input.turn.Tie as tie
 
 keep-requires : tie.Need-keep-requires
 keep-requires c κs =

@@ -3,8 +3,8 @@ use Prim.Native.Nat.{_≤_}
 use mathlib.Core.Path.{_≡_}
 use borrow.Author.Needs.{needs}
 use lib.ListN.{length}
-use Rattle.conformance.proofs.lines.answer_whole.Statement.{statement}
-use Rattle.conformance.proofs.lines.answer_whole.Tie as tie
+use Rattle.conformance.proofs.input.answer_whole.Statement.{statement}
+use Rattle.conformance.proofs.input.answer_whole.Tie as tie
 
 abbrev Inv-loop : tie.InvT-loop
 Inv-loop buffer₀ held₀ turns₀ buffer held turns = (length buffer ≡ length buffer₀) × (held ≤ length buffer)

@@ -4,8 +4,8 @@ use native.Mathlib.Omega.{arith}
 use borrow.Author.Needs.{needs}
 use lib.ListN.{length-set}
 use lib.Seq.{length-take-le}
-use Rattle.conformance.proofs.lines.answer_all.Statement.{statement}
-use Rattle.conformance.proofs.lines.answer_all.Tie as tie
+use Rattle.conformance.proofs.input.answer_all.Statement.{statement}
+use Rattle.conformance.proofs.input.answer_all.Tie as tie
 
 pub answer-all-spec : {M : Type 1} → statement M
 answer-all-spec =
