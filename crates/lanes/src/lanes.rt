@@ -2,6 +2,8 @@
 ghost use mathlib.Core.Path.{_≡_};
 ghost use lib.ListN.{length};
 ghost use Rattle.lanes.specs.Lanes.{lanesOutOf, lanesBackOf, lanesDeclineOf, targetOf};
+use crate::blocks::block_end;
+use crate::blocks::words_back;
 use words::decline::Decline;
 
 // Why a way out or back is declined, by the lengths of its source and target.
@@ -50,12 +52,9 @@ pub fn lanes_back(source: &[u8], target: &mut [u8]) -> Decline
     let n = source.len() / 4;
     let mut i = 0;
     while i < n {
-        let word = 4 * i;
-        target[word] = source[i];
-        target[word + 1] = source[n + i];
-        target[word + 2] = source[2 * n + i];
-        target[word + 3] = source[3 * n + i];
-        i += 1;
+        let end = block_end(n, i);
+        words_back(source, target, n, i, end);
+        i = end;
     }
     decline
 }

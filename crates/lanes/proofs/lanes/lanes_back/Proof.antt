@@ -1,19 +1,18 @@
--- Each round moves a byte of each lane to its word. The invariant: the words before word i are moved. The measure is the words left.
+-- Each round moves the words of a block. The invariant: the words before word i are moved. The measure is the words left.
 use Prim.Native.Nat.{_*_, _-_, _/_, _≤_}
 use borrow.Author.Needs.{needs}
-use lib.ListN.{length, length-set}
+use lib.ListN.{length}
 use mathlib.Core.Path.{_∙_, _≡_, sym}
 use native.Mathlib.Omega.{arith}
 use Rattle.words.proofs.DeclineLaws.{stopped, went-on}
-use Rattle.lanes.proofs.LaneLaws.{inWords, inLanes}
-use Rattle.lanes.proofs.MoveLaws.{Moved, back-next, back-ends}
+use Rattle.lanes.proofs.MoveLaws.{MovedBack, back-further, back-ends}
 use Rattle.lanes.proofs.DeclineLaws.{accepted-lengths}
 use Rattle.lanes.proofs.lanes.lanes_back.Statement.{statement}
 use Rattle.lanes.proofs.lanes.lanes_back.Tie as tie
 
 abbrev Inv-loop : tie.InvT-loop
 Inv-loop source target₀ decline n i₀ target i =
-    (i ≤ n) × (length source ≡ 4 * n) × (length target₀ ≡ 4 * n) × (length target ≡ 4 * n) × Moved inWords (inLanes n) source target i
+    (i ≤ n) × (length source ≡ 4 * n) × (length target₀ ≡ 4 * n) × (length target ≡ 4 * n) × MovedBack n source target i
 
 abbrev μ-loop : tie.MeasureT-loop
 μ-loop source target₀ decline n i₀ target i = n - i
@@ -28,10 +27,12 @@ loop-holds c =
 
 loop-again : tie.Need-loop-again Inv-loop μ-loop
 loop-again c =
-    let at = c .before .before .before .before .before .loop in
+    let block = c .before .before in
+    let at = block .before .before .before .before .loop in
     let (within, whole, same, kept, moved) = at .inv in
-    let source = c .before .before .before .before .before .before .before .before .before .before .before .args .source .now in
-    (omega arith, whole, same, simp length-set kept, back-next source (at .target) _ (at .i) kept (c .before .before .before .before .loop-test .taken) moved)
+    let source = block .before .before .before .before .before .before .before .before .before .before .args .source .now in
+    let further = back-further source (at .target) (block .words-back .last .1 .0) _ (at .i) _ (block .words-back .ensures) moved in
+    (omega arith, whole, same, omega arith, further)
 
 returns-2 : tie.Need-returns-2 Inv-loop μ-loop
 returns-2 c =
@@ -52,24 +53,8 @@ lanes-back-spec =
     (λ c κs. search needs)
     returns
     loop-holds
-    (λ c. omega arith)
-    (λ c. omega arith)
-    (λ c. omega arith)
-    (λ c. omega arith)
-    (λ c. omega arith)
-    (λ c. omega arith)
-    (λ c. simp length-set (omega arith))
-    (λ c. omega arith)
-    (λ c. omega arith)
-    (λ c. omega arith)
-    (λ c. omega arith)
-    (λ c. simp length-set (omega arith))
-    (λ c. omega arith)
-    (λ c. omega arith)
-    (λ c. omega arith)
-    (λ c. omega arith)
-    (λ c. simp length-set (omega arith))
-    (λ c. omega arith)
+    (λ c κs. omega arith)
+    (λ c κs. omega arith)
     (λ c. omega arith)
     loop-again
     (λ c. let (within, whole, same, kept, moved) = c .before .loop .inv in kept ∙ sym same)

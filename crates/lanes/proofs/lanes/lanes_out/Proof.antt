@@ -5,15 +5,14 @@ use lib.ListN.{length, length-set}
 use mathlib.Core.Path.{_∙_, _≡_, sym}
 use native.Mathlib.Omega.{arith}
 use Rattle.words.proofs.DeclineLaws.{stopped, went-on}
-use Rattle.lanes.proofs.LaneLaws.{inWords, inLanes}
-use Rattle.lanes.proofs.MoveLaws.{Moved, out-next, out-ends}
+use Rattle.lanes.proofs.MoveLaws.{MovedOut, out-next, out-ends}
 use Rattle.lanes.proofs.DeclineLaws.{accepted-lengths}
 use Rattle.lanes.proofs.lanes.lanes_out.Statement.{statement}
 use Rattle.lanes.proofs.lanes.lanes_out.Tie as tie
 
 abbrev Inv-loop : tie.InvT-loop
 Inv-loop source target₀ decline n i₀ target i =
-    (i ≤ n) × (length source ≡ 4 * n) × (length target₀ ≡ 4 * n) × (length target ≡ 4 * n) × Moved (inLanes n) inWords source target i
+    (i ≤ n) × (length source ≡ 4 * n) × (length target₀ ≡ 4 * n) × (length target ≡ 4 * n) × MovedOut n source target i
 
 abbrev μ-loop : tie.MeasureT-loop
 μ-loop source target₀ decline n i₀ target i = n - i
