@@ -1,4 +1,4 @@
--- What an accepted store, register read or start-up tells: the geometry is in range, the device possible, and so on.
+-- What an accepted store or register read tells: the geometry is in range, the device possible, and so on.
 -- Assumes nothing.
 use mathlib.Core.Path.{_≡_, refl}
 use mathlib.Core.Bool.{true, false}
@@ -12,11 +12,10 @@ use Rattle.words.specs.Decline.{acceptedOf}
 use Rattle.words.proofs.DeclineLaws.{held, passed, neither}
 use Rattle.device.specs.declared.record.Device.{Device}
 use Rattle.device.specs.Record.{running}
-use Rattle.device.specs.Possible.{possibleOf}
-use Rattle.device.specs.Opening.{openingOf}
-use Rattle.device.proofs.OpeningLaws.{ready, opens}
+use Rattle.opening.specs.Possible.{possibleOf}
+use Rattle.opening.specs.Opening.{openingOf}
+use Rattle.opening.proofs.OpeningLaws.{ready, opens}
 use Rattle.access.specs.Store.{hasFormOf, storeDeclineOf, readDeclineOf}
-use Rattle.access.specs.StartUp.{startUpDeclineOf}
 
 -- a call on a device that can be at rest
 pub record AtRest (g : Geometry) (d : Device) : Type 0 where
@@ -25,7 +24,7 @@ pub record AtRest (g : Geometry) (d : Device) : Type 0 where
   pub possible : possibleOf g d ≡ true
   pub idle : running d ≡ false
 
-at-rest : (g : Geometry) (d : Device) → acceptedOf (openingOf g d [] 0) ≡ true → running d ≡ false → AtRest g d
+pub at-rest : (g : Geometry) (d : Device) → acceptedOf (openingOf g d [] 0) ≡ true → running d ≡ false → AtRest g d
 at-rest g d h idle =
     let r = ready g d [] 0 h in
     record { listed = r .lent .listed; range = r .lent .range; possible = r .possible; idle = idle }
@@ -42,12 +41,6 @@ store-at-rest g d r form h =
     let s1 = held (hasFormOf r form) _ Decline.Register refl (s0 .1) in
     let s2 = passed (running d) Decline.Running Decline.Accepted refl (s1 .1) in
     (at-rest g d (s0 .0) (s2 .0), s1 .0)
-
-pub start-up-at-rest : (g : Geometry) (d : Device) → acceptedOf (startUpDeclineOf g d) ≡ true → AtRest g d
-unfolding startUpDeclineOf
-start-up-at-rest g d h =
-    let s0 = neither (openingOf g d [] 0) _ h in
-    at-rest g d (s0 .0) (passed (running d) Decline.Running Decline.Accepted refl (s0 .1) .0)
 
 pub read-possible : (g : Geometry) (d : Device) (r : ℕ) → acceptedOf (readDeclineOf g d r) ≡ true
     → InRange g × (possibleOf g d ≡ true)

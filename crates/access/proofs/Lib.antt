@@ -1,3 +1,1 @@
-pub mod FieldLaws
 pub mod AcceptedLaws
-pub mod StartUpLaws

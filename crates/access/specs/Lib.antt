@@ -1,4 +1,1 @@
-pub mod Fields
-pub mod Launch
 pub mod Store
-pub mod StartUp

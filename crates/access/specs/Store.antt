@@ -9,14 +9,14 @@ use Rattle.geometry.specs.declared.banks.Geometry.{Geometry}
 use Rattle.words.specs.declared.decline.Decline.{Decline}
 use Rattle.words.specs.Decline.{acceptedOf, firstOf}
 use Rattle.device.specs.declared.record.Device.{Device}
-use Rattle.access.specs.declared.launch.Launched.{Launched}
+use Rattle.fields.specs.declared.launch.Launched.{Launched}
 use Rattle.access.specs.declared.store.Stored.{Stored}
 use Rattle.access.specs.declared.store.RegisterRead.{RegisterRead}
 use Rattle.device.specs.Registers.{WR, WREN}
 use Rattle.device.specs.Record.{registerOf, withCon, running, isOpen}
-use Rattle.device.specs.Opening.{openingOf}
-use Rattle.access.specs.Fields.{wantedOf, keyNextOf, conTakesOf, pwpTakesOf, bwpTakesOf, con2TakesOf}
-use Rattle.access.specs.Launch.{launched, launchOf}
+use Rattle.opening.specs.Opening.{openingOf}
+use Rattle.fields.specs.Fields.{wantedOf, keyNextOf, conTakesOf, pwpTakesOf, bwpTakesOf, con2TakesOf}
+use Rattle.fields.specs.Launch.{launched, launchOf}
 
 -- 4 does not apply: "A register number above 10, a form above 3, or a form other than 0 for NVMKEY."
 unfoldable pub hasFormOf : ℕ → ℕ → Bool

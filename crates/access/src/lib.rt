@@ -1,5 +1,2 @@
-// Accesses of the registers: which fields take a stored value, the launch, stores, register reads, start-up.
-mod fields;
-pub mod launch;
-pub mod start_up;
+// Accesses of the registers: stores and register reads.
 pub mod store;

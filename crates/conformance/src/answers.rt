@@ -2,12 +2,12 @@
 ghost use Prim.Native.Nat.{_≤_, _<_};
 ghost use lib.ListN.{length};
 ghost use Rattle.io.specs.Counts.{Counts};
-ghost use Rattle.conformance_cases.specs.Output.{Used};
+ghost use Rattle.conformance_io.specs.Output.{Used};
 use conformance_calls::calls::call_answer;
 use conformance_calls::names::Call;
-use conformance_cases::bytes::find;
-use conformance_cases::output::flush;
-use conformance_cases::output::put_answer;
+use conformance_io::output::flush;
+use conformance_io::output::put_answer;
+use conformance_lists::bytes::find;
 use conformance_requests::names::Request;
 use conformance_requests::requests::put_request;
 

@@ -2,9 +2,9 @@
 ghost use Prim.Native.Nat.{_≤_};
 ghost use lib.ListN.{length};
 use crate::answers::answer_lines;
-use conformance_cases::input::fill;
-use conformance_cases::input::keep;
-use conformance_cases::input::make_room;
+use conformance_io::input::fill;
+use conformance_io::input::keep;
+use conformance_io::input::make_room;
 
 // How many bytes are held after a turn, and whether the input ended there.
 struct Progress {

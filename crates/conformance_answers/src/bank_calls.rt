@@ -2,17 +2,17 @@
 // What asks for a bank whose indices are words is no call of the device: its callers show it.
 ghost use Prim.Native.Nat.{_≤_, _<_};
 ghost use lib.ListN.{length};
-use crate::records::device_of;
-use crate::records::geometry_of;
-use conformance_cases::answer::Answer;
-use conformance_cases::differences::same_words;
-use controller::parts::lower_bank;
-use controller::parts::lower_bank_decline;
-use controller::parts::page;
-use controller::parts::page_decline;
-use controller::read::flash_read;
+use conformance_io::answer::Answer;
+use conformance_io::differences::same_words;
+use conformance_io::records::device_of;
+use conformance_io::records::geometry_of;
 use device::registers::Nvmcon;
 use geometry::banks::page_words;
+use parts::parts::lower_bank;
+use parts::parts::lower_bank_decline;
+use parts::parts::page;
+use parts::parts::page_decline;
+use reads::read::flash_read;
 use words::word::has;
 
 pub fn flash_read_answer(front: [u32; 20], one: &[u32], two: &[u32], address: u32) -> Answer

@@ -2,15 +2,15 @@
 // What asks for room in the spare buffer is no call of the device: its callers show it.
 ghost use Prim.Native.Nat.{_≤_};
 ghost use Rattle.conformance_cases.specs.Cases.{Lent};
-use crate::records::device_of;
-use crate::records::geometry_of;
-use crate::records::with_device;
-use conformance_cases::answer::Answer;
-use conformance_cases::changes::with_changes;
-use controller::reset::Restarted;
-use controller::reset::reset;
+use conformance_io::answer::Answer;
+use conformance_io::changes::with_changes;
+use conformance_io::records::device_of;
+use conformance_io::records::geometry_of;
+use conformance_io::records::with_device;
 use flash::step::Stepped;
 use flash::step::step;
+use resets::reset::Restarted;
+use resets::reset::reset;
 
 // What a step gives but for the changes.
 fn stepped(given: Stepped) -> Answer

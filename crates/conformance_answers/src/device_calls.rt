@@ -2,18 +2,18 @@
 ghost use Prim.Native.Nat.{_≤_};
 ghost use lib.Dec.{eqb};
 ghost use Rattle.words.specs.Word.{pick};
-use crate::records::device_of;
-use crate::records::geometry_of;
-use crate::records::with_device;
-use access::start_up::start_up;
 use access::store::register_read;
 use access::store::store;
-use conformance_cases::answer::Answer;
-use device::possible::is_possible;
-use device::protection::is_protected;
+use conformance_io::answer::Answer;
+use conformance_io::records::device_of;
+use conformance_io::records::geometry_of;
+use conformance_io::records::with_device;
 use geometry::banks::Geometry;
 use geometry::banks::in_range;
-use map::sequence::bfswap;
+use opening::possible::is_possible;
+use operation::protection::is_protected;
+use sequence::sequence::bfswap;
+use start_up::start_up::start_up;
 
 pub fn compare_answer(words: [u32; 20]) -> Answer
     ensures { λ r. ⌜ r .count ≤ 20 ⌝ }

@@ -2,5 +2,4 @@
 pub mod bank_calls;
 pub mod changing_calls;
 pub mod device_calls;
-pub mod records;
 pub mod update_calls;

@@ -3,16 +3,16 @@
 ghost use Prim.Native.Nat.{_≤_};
 ghost use lib.ListN.{length};
 ghost use Rattle.conformance_cases.specs.Cases.{Lent, Parted};
-use crate::records::device_of;
-use crate::records::geometry_of;
-use crate::records::with_device;
-use conformance_cases::answer::Answer;
-use conformance_cases::changes::with_changes;
+use conformance_io::answer::Answer;
+use conformance_io::changes::with_changes;
+use conformance_io::records::device_of;
+use conformance_io::records::geometry_of;
+use conformance_io::records::with_device;
 use device::record::Device;
 use geometry::banks::Geometry;
-use update::start::start;
-use update::turn::Turned;
-use update::turn::turn;
+use update_start::start::start;
+use update_turn::turn::Turned;
+use update_turn::turn::turn;
 
 pub fn update_start_answer(front: [u32; 20], one: &[u32], two: &[u32], image: &[u32]) -> Answer
     ensures { λ r. ⌜ r .count ≤ 20 ⌝ }

@@ -3,7 +3,7 @@ use Prim.Native.Nat.{ℕ, _≤_, _<_}
 use mathlib.Core.Path.{_≡_}
 use mathlib.Core.List.{List}
 use lib.ListN.{length, take}
-use Rattle.conformance_cases.specs.Lists.{Held}
+use Rattle.conformance_lists.specs.Lists.{Held, Room}
 use Rattle.conformance_cases.specs.declared.cases.Case.{Case}
 
 -- two lists stand in the spare buffer one after the other, up to `middle` and from there up to `end`
@@ -19,11 +19,6 @@ pub record Read (one two spare : List ℕ) (case : Case) : Type 0 where
   pub in-one : Held one (length spare) (case .one)
   pub in-two : Held two (length spare) (case .two)
   pub in-spare : Parted spare (case .middle) (case .end)
-
--- the spare buffer has room for a bank, whose indices are words
-pub record Room (bank spare : List ℕ) : Type 0 where
-  pub room : length bank ≤ length spare
-  pub fits : length bank < 4294967296
 
 -- two banks, for each of which the spare buffer has room, and where the lists after them end there
 pub record Lent (one two spare : List ℕ) (end : ℕ) : Type 0 where

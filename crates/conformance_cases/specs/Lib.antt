@@ -1,5 +1,1 @@
-pub mod Bytes
-pub mod Numbers
-pub mod Output
-pub mod Lists
 pub mod Cases

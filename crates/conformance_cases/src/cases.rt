@@ -2,8 +2,8 @@
 // What asks for a shape is no call of the device: its callers show it.
 ghost use Prim.Native.Nat.{_≤_};
 ghost use Rattle.conformance_cases.specs.Cases.{Parted, Read};
-use crate::lists::take_list_if;
-use crate::numbers::take;
+use conformance_lists::lists::take_list_if;
+use conformance_lists::numbers::take;
 
 // How many numbers a call takes, how many lists after them, and how many numbers after those.
 pub struct Shape {

@@ -1,10 +1,2 @@
-// Reading cases and writing answers.
-pub mod answer;
-pub mod bytes;
+// The inputs of a case, read from a line.
 pub mod cases;
-pub mod changes;
-pub mod differences;
-pub mod input;
-pub mod lists;
-pub mod numbers;
-pub mod output;

@@ -2,8 +2,8 @@
 // What asks for room or for lists of such lengths is no call of the device: its callers show it.
 ghost use Prim.Native.Nat.{_≤_};
 ghost use lib.ListN.{length};
-ghost use Rattle.conformance_cases.specs.Output.{Used};
-use conformance_cases::output::put_next;
+ghost use Rattle.conformance_io.specs.Output.{Used};
+use conformance_io::output::put_next;
 
 // The longest list of bytes that can be lent.
 pub const LONGEST: usize = 65536;

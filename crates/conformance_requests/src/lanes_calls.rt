@@ -2,17 +2,17 @@
 // What asks for room or for lists of such lengths is no call of the device: its callers show it.
 ghost use Prim.Native.Nat.{_≤_};
 ghost use lib.ListN.{length};
-ghost use Rattle.conformance_cases.specs.Output.{Used};
+ghost use Rattle.conformance_io.specs.Output.{Used};
 use crate::byte_lists::LONGEST;
 use crate::byte_lists::copy;
 use crate::byte_lists::put_changes;
 use crate::names::Request;
-use conformance_cases::answer::Answer;
 use conformance_cases::cases::all;
-use conformance_cases::lists::take_byte_list;
-use conformance_cases::output::put_answer;
-use conformance_cases::output::put_byte;
-use conformance_cases::output::put_number;
+use conformance_io::answer::Answer;
+use conformance_io::output::put_answer;
+use conformance_io::output::put_byte;
+use conformance_io::output::put_number;
+use conformance_lists::lists::take_byte_list;
 use lanes::lanes::lanes_back;
 use lanes::lanes::lanes_out;
 use words::decline::Decline;

@@ -1,5 +1,5 @@
 // The requests' calls by their names.
-use conformance_cases::bytes::same;
+use conformance_lists::bytes::same;
 
 pub enum Request {
     Plan,

@@ -1,7 +1,7 @@
 // The planner's call. Its windows stand in a lent buffer, start and length of each.
 ghost use Prim.Native.Nat.{_≤_};
-use conformance_cases::answer::Answer;
-use conformance_cases::numbers::take;
+use conformance_io::answer::Answer;
+use conformance_lists::numbers::take;
 use planner::plan::plan;
 
 // Whether there are so many numbers as words to take them, up to the line's end.

@@ -1,12 +1,12 @@
 // From a request's inputs to its answer.
 // What asks for bytes within the output is no call of the device: its callers show it.
-ghost use Rattle.conformance_cases.specs.Output.{Used};
+ghost use Rattle.conformance_io.specs.Output.{Used};
 use crate::lanes_calls::put_lanes;
 use crate::names::Request;
 use crate::plan_call::plan_answer;
 use crate::sheet_call::put_page_sheet;
-use conformance_cases::answer::Answer;
-use conformance_cases::output::put_answer;
+use conformance_io::answer::Answer;
+use conformance_io::output::put_answer;
 
 // Writes what the call gives for the inputs from a position to the line's end.
 pub fn put_request(

@@ -2,22 +2,22 @@
 // What asks for room or for lists of such lengths is no call of the device: its callers show it.
 ghost use Prim.Native.Nat.{_≤_};
 ghost use lib.ListN.{length};
-ghost use Rattle.conformance_cases.specs.Lists.{Held};
-ghost use Rattle.conformance_cases.specs.Output.{Used};
+ghost use Rattle.conformance_lists.specs.Lists.{Held};
+ghost use Rattle.conformance_io.specs.Output.{Used};
 use crate::byte_lists::LONGEST;
 use crate::byte_lists::copy;
 use crate::byte_lists::put_changes;
-use conformance_answers::records::device_of;
-use conformance_answers::records::geometry_of;
-use conformance_cases::answer::Answer;
 use conformance_cases::cases::all;
-use conformance_cases::lists::take_byte_list;
-use conformance_cases::lists::take_list;
-use conformance_cases::numbers::take;
-use conformance_cases::output::put_answer;
-use conformance_cases::output::put_byte;
-use conformance_cases::output::put_next;
-use conformance_cases::output::put_number;
+use conformance_io::answer::Answer;
+use conformance_io::output::put_answer;
+use conformance_io::output::put_byte;
+use conformance_io::output::put_next;
+use conformance_io::output::put_number;
+use conformance_io::records::device_of;
+use conformance_io::records::geometry_of;
+use conformance_lists::lists::take_byte_list;
+use conformance_lists::lists::take_list;
+use conformance_lists::numbers::take;
 use sheet::sheet::Written;
 use sheet::sheet::page_sheet;
 

@@ -19,7 +19,7 @@ use crate::updates::turn_at;
 use device::record::Device;
 use device::record::power_on;
 use geometry::banks::Geometry;
-use update::start::start;
+use update_start::start::start;
 
 // The masks for each kind of reset, and the cuts of a place.
 const MASKS: u32 = 6;

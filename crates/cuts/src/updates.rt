@@ -1,12 +1,12 @@
 // Resets with a start-up, and whole updates.
 ghost use Prim.Native.Nat.{_≤_};
-use access::start_up::start_up;
-use controller::reset::reset;
 use device::record::Device;
 use device::registers::Nvmcon;
 use geometry::banks::Geometry;
-use update::turn::Turned;
-use update::turn::turn;
+use resets::reset::reset;
+use start_up::start_up::start_up;
+use update_turn::turn::Turned;
+use update_turn::turn::turn;
 use words::word::has;
 
 // The device after a reset and a start-up, and the bank that runs: 0 where there is none.

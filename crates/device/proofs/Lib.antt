@@ -1,5 +1,1 @@
-pub mod OperationLaws
-pub mod PossibleLaws
-pub mod OpeningLaws
 pub mod TableLaws
-pub mod Bench

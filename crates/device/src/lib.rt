@@ -1,7 +1,3 @@
-// The device record: registers, protection, the operation that NVMOP names, what decline 3 takes.
-pub mod opening;
-pub mod operation;
-pub mod possible;
-pub mod protection;
+// The device record: its registers with their bits, masks and reset values.
 pub mod record;
 pub mod registers;

@@ -16,11 +16,11 @@ use Rattle.words.proofs.DeclineLaws.{held, neither}
 use Rattle.device.specs.declared.record.Device.{Device}
 use Rattle.device.specs.Registers.{WRERR, LVDERR}
 use Rattle.device.specs.Record.{running, opOf}
-use Rattle.device.specs.Operation.{beginsOf, lengthOf}
-use Rattle.device.specs.Possible.{runningOf, possibleOf}
-use Rattle.device.specs.Opening.{openingOf}
-use Rattle.device.proofs.PossibleLaws.{possible}
-use Rattle.device.proofs.OpeningLaws.{Ready, ready}
+use Rattle.operation.specs.Operation.{beginsOf, lengthOf}
+use Rattle.opening.specs.Possible.{runningOf, possibleOf}
+use Rattle.opening.specs.Opening.{openingOf}
+use Rattle.opening.proofs.PossibleLaws.{possible}
+use Rattle.opening.proofs.OpeningLaws.{Ready, ready}
 use Rattle.flash.specs.Effect.{Runs}
 use Rattle.flash.specs.Step.{stepDeclineOf}
 

@@ -12,8 +12,8 @@ use Rattle.words.specs.Decline.{acceptedOf, firstOf}
 use Rattle.device.specs.declared.record.Device.{Device}
 use Rattle.device.specs.Registers.{WR, WRERR}
 use Rattle.device.specs.Record.{withCon, running, opOf}
-use Rattle.device.specs.Operation.{lengthOf}
-use Rattle.device.specs.Opening.{openingOf}
+use Rattle.operation.specs.Operation.{lengthOf}
+use Rattle.opening.specs.Opening.{openingOf}
 use Rattle.flash.specs.declared.effect.Effect.{Effect}
 use Rattle.flash.specs.declared.step.Advanced.{Advanced}
 use Rattle.flash.specs.Effect.{effectOf}

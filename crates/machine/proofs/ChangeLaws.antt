@@ -16,12 +16,12 @@ use Rattle.words.proofs.BitLaws.{bit-or, clear-bit}
 use Rattle.words.proofs.MaskLaws.{Within, outside-bit, merge-keeps}
 use Rattle.geometry.specs.declared.banks.Geometry.{Geometry}
 use Rattle.device.specs.declared.record.Device.{Device}
-use Rattle.access.specs.declared.launch.Launched.{Launched}
+use Rattle.fields.specs.declared.launch.Launched.{Launched}
 use Rattle.device.specs.Registers.{WRERR, LVDERR}
 use Rattle.device.specs.Record.{registerOf, opOf}
-use Rattle.device.specs.Operation.{beginsOf}
-use Rattle.access.specs.Fields.{conTakesOf}
-use Rattle.access.specs.Launch.{launched, launchOf}
+use Rattle.operation.specs.Operation.{beginsOf}
+use Rattle.fields.specs.Fields.{conTakesOf}
+use Rattle.fields.specs.Launch.{launched, launchOf}
 use Rattle.access.specs.Store.{launchesOf, takenOf, conStoreOf, dataAfter, appliedOf}
 
 -- ---- NVMCON: a bit that does not take and is none of WR, WRERR and LVDERR stays

@@ -17,12 +17,12 @@ use Rattle.geometry.specs.declared.banks.Geometry.{Geometry}
 use Rattle.device.specs.declared.record.Device.{Device}
 use Rattle.device.specs.Registers.{WR, WRERR, LVDERR, BFSWAP, NVMERS}
 use Rattle.device.specs.Record.{powerOn, withCon, running, bfswap, opOf}
-use Rattle.device.specs.Operation.{beginsOf, lengthOf}
-use Rattle.device.specs.Possible.{runningOf, possibleOf}
-use Rattle.device.proofs.PossibleLaws.{Implemented, Possible, possible, possible-test, same-rows}
+use Rattle.operation.specs.Operation.{beginsOf, lengthOf}
+use Rattle.opening.specs.Possible.{runningOf, possibleOf}
+use Rattle.opening.proofs.PossibleLaws.{Implemented, Possible, possible, possible-test, same-rows}
 use Rattle.flash.specs.declared.step.Advanced.{Advanced}
 use Rattle.flash.specs.Step.{advanced, advanceOf}
-use Rattle.controller.specs.Reset.{resetConOf, resetDeviceOf}
+use Rattle.resets.specs.Reset.{resetConOf, resetDeviceOf}
 
 -- ---- a step
 module _ (g : Geometry) (d : Device) (can : possibleOf g d ≡ true) (on : running d ≡ true) where

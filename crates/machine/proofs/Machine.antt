@@ -2,7 +2,7 @@
 use Rattle.words.proofs.PickLaws.{and-both, all-below}
 use Rattle.device.specs.Record.{registerOf}
 use Rattle.device.specs.Registers.{withinOf}
-use Rattle.device.specs.Possible.{implementedOf, possibleOf}
+use Rattle.opening.specs.Possible.{implementedOf, possibleOf}
 use Rattle.machine.specs.Machine.{Controller}
 use Rattle.machine.proofs.DeviceLaws.{power-on-possible}
 use Rattle.machine.specs.Machine.Operation.{step, reset}

@@ -14,11 +14,11 @@ use Rattle.device.specs.declared.record.Device.{Device}
 use Rattle.access.specs.declared.store.Stored.{Stored}
 use Rattle.access.specs.declared.store.RegisterRead.{RegisterRead}
 use Rattle.device.specs.Record.{bfswap}
-use Rattle.device.specs.Possible.{possibleOf}
+use Rattle.opening.specs.Possible.{possibleOf}
 use Rattle.access.specs.Store.{storeDeclineOf, storeAcceptedOf, storeOf, readDeclineOf, registerReadOf}
 use Rattle.flash.proofs.AcceptedLaws.{step-ready}
-use Rattle.controller.specs.Reset.{comparedOf}
-use Rattle.controller.proofs.AcceptedLaws.{reset-ready}
+use Rattle.resets.specs.Reset.{comparedOf}
+use Rattle.resets.proofs.AcceptedLaws.{reset-ready}
 use Rattle.machine.specs.Machine.{Operation, State, state, left, answerOf, transitionOf, runOf, AllAccepted, BringsWord, BringWords, Sound}
 use Rattle.machine.specs.Machine.Operation.{store, registerRead, flashRead, step, reset}
 use Rattle.machine.proofs.StoreLaws.{store-possible, read-leaves-possible}

@@ -19,10 +19,10 @@ use Rattle.geometry.specs.Banks.{pageBytesOf, pageWordsOf, bootWordsOf, bootQua
 use Rattle.map.specs.Windows.{windowBytesOf, pageOf, quadIndexOf}
 use Rattle.device.specs.declared.record.Device.{Device}
 use Rattle.device.specs.Record.{bfswap, pfswap}
-use Rattle.device.specs.Protection.{protectedOf}
+use Rattle.operation.specs.Protection.{protectedOf}
 use Rattle.flash.specs.Effect.{stepLocationOf}
 use Rattle.flash.proofs.EffectLaws.{runs-room}
-use Rattle.controller.specs.Read.{secondAtOf}
+use Rattle.reads.specs.Read.{secondAtOf}
 use Rattle.machine.specs.Protection.{isProgramWord, pageOfWord, isUpperWord, protectedWordOf}
 use Rattle.machine.specs.Machine.{Operation, State, bankOf, transitionOf}
 use Rattle.machine.proofs.WriteLaws.{Writes, writes-one-quad, one-quad, unwritten}

@@ -13,9 +13,9 @@ use Rattle.geometry.specs.declared.banks.Geometry.{Geometry}
 use Rattle.device.specs.declared.record.Device.{Device}
 use Rattle.device.specs.Registers.{WR}
 use Rattle.device.specs.Record.{registerOf, withCon, running}
-use Rattle.access.specs.Fields.{wantedOf, conTakesOf}
+use Rattle.fields.specs.Fields.{wantedOf, conTakesOf}
 use Rattle.access.specs.Store.{hasFormOf, launchesOf, conStoreOf, appliedOf, accepted, storeAcceptedOf, storeOf}
-use Rattle.access.specs.StartUp.{Access, storesOf}
+use Rattle.start_up.specs.StartUp.{Access, storesOf}
 use Rattle.access.proofs.AcceptedLaws.{AtRest}
 use Rattle.machine.specs.Machine.{State, state, runOf, AllAccepted, BringWords, storeOperations}
 use Rattle.machine.proofs.StoreLaws.{taken-idle, store-possible}

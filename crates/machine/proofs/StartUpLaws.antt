@@ -14,8 +14,9 @@ use Rattle.words.specs.Decline.{acceptedOf}
 use Rattle.device.specs.declared.record.Device.{Device}
 use Rattle.device.specs.Record.{bfswap}
 use Rattle.access.specs.Store.{hasFormOf, storeDeclineOf, storeOf}
-use Rattle.access.specs.StartUp.{Access, access, storesOf, keyStores, startUpStores, startUpDeclineOf, startUpOf}
-use Rattle.access.proofs.AcceptedLaws.{store-at-rest, start-up-at-rest, rest-opens}
+use Rattle.start_up.specs.StartUp.{Access, access, storesOf, keyStores, startUpStores, startUpDeclineOf, startUpOf}
+use Rattle.access.proofs.AcceptedLaws.{store-at-rest, rest-opens}
+use Rattle.start_up.proofs.StartUpLaws.{start-up-at-rest}
 use Rattle.machine.specs.Machine.{Operation, State, state, runOf, AllAccepted, storeOperations, BringWords, Sound}
 use Rattle.machine.proofs.MachineLaws.{run-sound}
 use Rattle.machine.proofs.RestLaws.{NoLaunch, NoLaunches, stores-accepted, stores-run, stores-bring}

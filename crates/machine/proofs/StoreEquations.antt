@@ -14,18 +14,18 @@ use Rattle.words.proofs.MaskLaws.{Within, merge-set, merge-clear, merge-none}
 use Rattle.geometry.specs.declared.banks.Geometry.{Geometry}
 use Rattle.words.specs.Decline.{acceptedOf}
 use Rattle.device.specs.declared.record.Device.{Device}
-use Rattle.access.specs.declared.launch.Launched.{Launched}
+use Rattle.fields.specs.declared.launch.Launched.{Launched}
 use Rattle.access.specs.declared.store.Stored.{Stored}
 use Rattle.device.specs.Registers.{WR, WREN, WRERR, LVDERR, NVMOP, LBWPULOCK, UBWPULOCK}
 use Rattle.device.specs.Record.{registerOf, withCon, isOpen, opOf}
-use Rattle.device.specs.Operation.{beginsOf}
-use Rattle.access.specs.Fields.{wantedOf, keyNextOf, conTakesOf, bwpTakesOf, lowerTakesOf}
-use Rattle.access.specs.Launch.{launched, launchOf}
+use Rattle.operation.specs.Operation.{beginsOf}
+use Rattle.fields.specs.Fields.{wantedOf, keyNextOf, conTakesOf, bwpTakesOf, lowerTakesOf}
+use Rattle.fields.specs.Launch.{launched, launchOf}
 use Rattle.access.specs.Store.{hasFormOf, storeDeclineOf, launchesOf, conStoreOf, appliedOf, accepted, storeAcceptedOf, storeOf}
-use Rattle.access.specs.StartUp.{storesOf, keyStores}
-use Rattle.access.proofs.FieldLaws.{con-takes-wren, con-takes-enabled, con-takes-shut}
+use Rattle.start_up.specs.StartUp.{storesOf, keyStores}
+use Rattle.fields.proofs.FieldLaws.{con-takes-wren, con-takes-enabled, con-takes-shut}
 use Rattle.access.proofs.AcceptedLaws.{AtRest, rest-opens}
-use Rattle.device.proofs.PossibleLaws.{possible, possible-test, same-rows}
+use Rattle.opening.proofs.PossibleLaws.{possible, possible-test, same-rows}
 
 -- the device with another NVMADDR, NVMDATA or NVMBWP, and the key shut
 abbrev pub withAddress : Device → ℕ → Device

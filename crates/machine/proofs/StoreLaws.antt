@@ -18,18 +18,18 @@ use Rattle.words.proofs.MaskLaws.{Within, merge-within, or-within, clear-within
 use Rattle.geometry.specs.declared.banks.Geometry.{Geometry}
 use Rattle.words.specs.Decline.{acceptedOf}
 use Rattle.device.specs.declared.record.Device.{Device}
-use Rattle.access.specs.declared.launch.Launched.{Launched}
+use Rattle.fields.specs.declared.launch.Launched.{Launched}
 use Rattle.access.specs.declared.store.Stored.{Stored}
 use Rattle.device.specs.Registers.{WR, WRERR, LVDERR, ALWAYS}
 use Rattle.device.specs.Record.{registerOf, withCon, running, opOf}
-use Rattle.device.specs.Operation.{beginsOf, lengthOf}
-use Rattle.device.specs.Possible.{runningOf, possibleOf}
-use Rattle.access.specs.Fields.{wantedOf, conTakesOf, bwpTakesOf}
-use Rattle.access.specs.Launch.{launched, launchOf}
+use Rattle.operation.specs.Operation.{beginsOf, lengthOf}
+use Rattle.opening.specs.Possible.{runningOf, possibleOf}
+use Rattle.fields.specs.Fields.{wantedOf, conTakesOf, bwpTakesOf}
+use Rattle.fields.specs.Launch.{launched, launchOf}
 use Rattle.access.specs.Store.{storeDeclineOf, launchesOf, conStoreOf, dataAfter, appliedOf, storeAcceptedOf, storeOf, readDeclineOf, registerReadOf}
-use Rattle.device.proofs.OperationLaws.{length-pos}
-use Rattle.access.proofs.FieldLaws.{con-takes-within, pwp-takes-within, bwp-takes-within, con2-takes-within, key-next-high}
-use Rattle.device.proofs.PossibleLaws.{Implemented, Possible, possible, possible-test, idle-step, same-rows}
+use Rattle.operation.proofs.OperationLaws.{length-pos}
+use Rattle.fields.proofs.FieldLaws.{con-takes-within, pwp-takes-within, bwp-takes-within, con2-takes-within, key-next-high}
+use Rattle.opening.proofs.PossibleLaws.{Implemented, Possible, possible, possible-test, idle-step, same-rows}
 use Rattle.access.proofs.AcceptedLaws.{AtRest, store-at-rest, read-possible}
 
 -- ---- the value asked for is a word

@@ -17,15 +17,15 @@ use Rattle.words.specs.Decline.{acceptedOf}
 use Rattle.map.specs.Windows.{pageOf, quadIndexOf, inSecondOf}
 use Rattle.device.specs.declared.record.Device.{Device}
 use Rattle.device.specs.Record.{running, bfswap, pfswap, opOf}
-use Rattle.device.specs.Protection.{protectedOf}
+use Rattle.operation.specs.Protection.{protectedOf}
 use Rattle.flash.specs.declared.effect.Effect.{Effect}
 use Rattle.flash.specs.Effect.{Runs, stepLocationOf, blockedOf, sourceFitsOf, oldQuadOf, effectAtOf, effectOf}
 use Rattle.flash.specs.Step.{After, after, stepDeclineOf, oneAfter, twoAfter, stepAcceptedOf, stepOf}
 use Rattle.flash.proofs.EffectLaws.{effect-quad}
 use Rattle.flash.proofs.AcceptedLaws.{runs, step-ready}
-use Rattle.controller.specs.Read.{secondAtOf}
-use Rattle.controller.specs.Reset.{resetDeclineOf, tornQuadOf, oneTornOf, twoTornOf, restartOf, resetOf}
-use Rattle.controller.proofs.AcceptedLaws.{reset-ready}
+use Rattle.reads.specs.Read.{secondAtOf}
+use Rattle.resets.specs.Reset.{resetDeclineOf, tornQuadOf, oneTornOf, twoTornOf, restartOf, resetOf}
+use Rattle.resets.proofs.AcceptedLaws.{reset-ready}
 use Rattle.machine.specs.Machine.{Operation, State, bankOf, left, transitionOf, Outside, stepSecondOf, stepQuadOf, OneQuad}
 use Rattle.machine.specs.Machine.Operation.{store, registerRead, flashRead, step, reset}
 use Rattle.machine.proofs.ProtectionLaws.{unprotected}

@@ -16,13 +16,13 @@ use Rattle.map.specs.Windows.{quadIndexOf}
 use Rattle.device.specs.declared.record.Device.{Device}
 use Rattle.device.specs.Registers.{withinOf}
 use Rattle.device.specs.Record.{registerOf, powerOn, bfswap}
-use Rattle.device.specs.Possible.{possibleOf}
+use Rattle.opening.specs.Possible.{possibleOf}
 use Rattle.access.specs.Store.{storeOf, registerReadOf}
-use Rattle.access.specs.StartUp.{Access, startUpStores, startUpOf}
+use Rattle.start_up.specs.StartUp.{Access, startUpStores, startUpOf}
 use Rattle.flash.specs.Effect.{stepLocationOf}
 use Rattle.flash.specs.Step.{After, stepOf}
-use Rattle.controller.specs.Reset.{comparedOf, resetOf}
-use Rattle.controller.specs.Read.{secondAtOf, flashReadOf}
+use Rattle.resets.specs.Reset.{comparedOf, resetOf}
+use Rattle.reads.specs.Read.{secondAtOf, flashReadOf}
 use Rattle.machine.specs.Protection.{protectedWordOf}
 
 -- a store of a form and a value to a register; a register read; a flash read; a step and a reset with their SRAM, a reset also with its

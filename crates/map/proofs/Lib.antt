@@ -1,3 +1,1 @@
 pub mod WindowLaws
-pub mod SequenceLaws
-pub mod Bench

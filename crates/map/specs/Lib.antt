@@ -1,3 +1,1 @@
 pub mod Windows
-pub mod Sequence
-pub mod Bench

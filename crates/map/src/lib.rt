@@ -1,3 +1,2 @@
-// The map: the four windows and where an address stands; the sequence word and the comparison that maps a bank lower.
-pub mod sequence;
+// The map: the four windows, and where an address stands.
 pub mod windows;

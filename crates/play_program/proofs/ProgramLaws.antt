@@ -17,12 +17,12 @@ use Rattle.lines.proofs.LineLaws.{length-four}
 use Rattle.words.specs.declared.decline.Decline.{Decline}
 use Rattle.geometry.specs.Banks.{listedOf, inRangeOf}
 use Rattle.words.specs.Decline.{acceptedOf}
-use Rattle.map.specs.Sequence.{complementOf, validOf, bfswapOf}
+use Rattle.sequence.specs.Sequence.{complementOf, validOf, bfswapOf}
 use Rattle.device.specs.declared.record.Device.{Device}
 use Rattle.device.specs.Record.{powerOn}
-use Rattle.device.specs.Opening.{openingOf}
-use Rattle.device.proofs.OpeningLaws.{opens}
-use Rattle.controller.specs.Reset.{comparedOf, resetConOf, resetDeviceOf}
+use Rattle.opening.specs.Opening.{openingOf}
+use Rattle.opening.proofs.OpeningLaws.{opens}
+use Rattle.resets.specs.Reset.{comparedOf, resetConOf, resetDeviceOf}
 use Rattle.machine.proofs.Machine.{controller}
 use Rattle.records.specs.Records.{recordsOf, isScriptOf}
 use Rattle.machine.specs.Machine.{Sound}

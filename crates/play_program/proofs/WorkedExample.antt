@@ -2,12 +2,12 @@
 -- Assumes nothing.
 use mathlib.Core.Path.{refl}
 use Rattle.access.specs.Store.{hasFormOf, storeDeclineOf, launchesOf, conStoreOf, appliedOf, storeAcceptedOf, storeOf}
-use Rattle.access.specs.Fields.{keyNextOf, conTakesOf}
-use Rattle.access.specs.Launch.{launchOf}
-use Rattle.device.specs.Opening.{openingOf}
-use Rattle.device.specs.Operation.{unitOf, targetOf, targetBeginsOf, beginsAtOf, lengthOf}
-use Rattle.device.specs.Possible.{implementedOf, runningOf, possibleOf}
-use Rattle.device.specs.Protection.{programProtectedOf}
+use Rattle.fields.specs.Fields.{keyNextOf, conTakesOf}
+use Rattle.fields.specs.Launch.{launchOf}
+use Rattle.opening.specs.Opening.{openingOf}
+use Rattle.operation.specs.Operation.{unitOf, targetOf, targetBeginsOf, beginsAtOf, lengthOf}
+use Rattle.opening.specs.Possible.{implementedOf, runningOf, possibleOf}
+use Rattle.operation.specs.Protection.{programProtectedOf}
 use Rattle.device.specs.Record.{registerOf}
 use Rattle.flash.specs.Effect.{stepAtOf, blockedOf, effectAtOf, effectOf}
 use Rattle.flash.specs.Step.{stepDeclineOf, advanceOf, stepOf}

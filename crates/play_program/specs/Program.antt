@@ -10,7 +10,7 @@ use Rattle.geometry.specs.declared.banks.Geometry.{Geometry}
 use Rattle.words.specs.declared.decline.Decline.{Decline}
 use Rattle.geometry.specs.Banks.{bankWordsOf}
 use Rattle.words.specs.Decline.{numberOf}
-use Rattle.map.specs.Sequence.{sequenceIndexOf}
+use Rattle.sequence.specs.Sequence.{sequenceIndexOf}
 use Rattle.device.specs.Record.{powerOn}
 use Rattle.machine.specs.Machine.{State, state}
 use Rattle.records.specs.Records.{recordsOf, isScriptOf}

@@ -20,13 +20,13 @@ use Rattle.words.specs.Decline.{numberOf, acceptedOf}
 use Rattle.geometry.specs.Lent.{lengthsFitOf, lentDeclineOf}
 use Rattle.device.specs.declared.record.Device.{Device}
 use Rattle.device.specs.Record.{running}
-use Rattle.device.specs.Possible.{possibleOf}
-use Rattle.device.specs.Opening.{openingOf}
-use Rattle.device.proofs.OpeningLaws.{ready, opens}
+use Rattle.opening.specs.Possible.{possibleOf}
+use Rattle.opening.specs.Opening.{openingOf}
+use Rattle.opening.proofs.OpeningLaws.{ready, opens}
 use Rattle.access.specs.declared.store.Stored.{Stored}
 use Rattle.access.specs.Store.{hasFormOf, storeDeclineOf, storeAcceptedOf, storeOf}
 use Rattle.flash.specs.Step.{After, stepDeclineOf, stepOf}
-use Rattle.controller.specs.Reset.{resetDeclineOf, resetOf}
+use Rattle.resets.specs.Reset.{resetDeclineOf, resetOf}
 use Rattle.machine.specs.Machine.{State, Sound}
 use Rattle.records.specs.declared.records.Record.{Record}
 use Rattle.records.specs.Records.{recordOf, isResetOf, isRecordOf, recordsOf, isScriptOf}

@@ -10,11 +10,11 @@ use Rattle.geometry.specs.declared.banks.Geometry.{Geometry}
 use Rattle.words.specs.declared.decline.Decline.{Decline}
 use Rattle.words.specs.Decline.{numberOf, acceptedOf, firstOf}
 use Rattle.device.specs.declared.record.Device.{Device}
-use Rattle.device.specs.Opening.{openingOf}
+use Rattle.opening.specs.Opening.{openingOf}
 use Rattle.access.specs.declared.store.Stored.{Stored}
 use Rattle.access.specs.Store.{storeOf}
 use Rattle.flash.specs.Step.{After, after, stepOf}
-use Rattle.controller.specs.Reset.{resetOf}
+use Rattle.resets.specs.Reset.{resetOf}
 use Rattle.machine.specs.Machine.{State, left, Operation}
 use Rattle.script.specs.declared.play.PlayLength.{PlayLength}
 use Rattle.records.specs.declared.records.Record.{Record}

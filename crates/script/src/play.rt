@@ -4,8 +4,6 @@ ghost use Rattle.flash.specs.Step.{after};
 ghost use Rattle.machine.specs.Machine.{state};
 ghost use Rattle.script.specs.Play.{recordAfterOf, playDeclineOf, playback, playedOf, playOf, playLengthOf};
 use access::store::store;
-use controller::reset::reset;
-use device::opening::opening;
 use device::record::Device;
 use flash::step::Stepped;
 use flash::step::step;
@@ -13,9 +11,11 @@ use geometry::banks::Geometry;
 use geometry::lent::Lent;
 use lines::lines::lines_length;
 use lines::lines::write_line;
+use opening::opening::opening;
 use records::records::Record;
 use records::records::is_script;
 use records::records::record_at;
+use resets::reset::reset;
 use words::decline::Decline;
 
 // The answer to a play, and the bytes of its whole output: where the buffer is shorter, it holds the output's front.

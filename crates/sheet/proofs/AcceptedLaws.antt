@@ -11,8 +11,8 @@ use Rattle.words.proofs.DeclineLaws.{held, neither}
 use Rattle.geometry.specs.declared.banks.Geometry.{Geometry}
 use Rattle.geometry.specs.Banks.{InRange, bankWordsOf}
 use Rattle.device.specs.declared.record.Device.{Device}
-use Rattle.device.specs.Opening.{openingOf}
-use Rattle.device.proofs.OpeningLaws.{ready}
+use Rattle.opening.specs.Opening.{openingOf}
+use Rattle.opening.proofs.OpeningLaws.{ready}
 use Rattle.sheet.specs.Sheet.{sheetBytesOf, pageSheetDeclineOf}
 
 pub record Holds (g : Geometry) (one two buffer : ℕ) : Type 0 where

@@ -10,7 +10,7 @@ use Rattle.words.specs.Decline.{acceptedOf, firstOf}
 use Rattle.geometry.specs.declared.banks.Geometry.{Geometry}
 use Rattle.geometry.specs.Banks.{pagesOf}
 use Rattle.device.specs.declared.record.Device.{Device}
-use Rattle.device.specs.Opening.{openingOf}
+use Rattle.opening.specs.Opening.{openingOf}
 use Rattle.sheet.specs.State.{kindPagesOf, pageStateOf}
 use Rattle.sheet.specs.Line.{lineOf}
 

@@ -8,7 +8,7 @@ use Rattle.geometry.specs.declared.banks.Geometry.{Geometry}
 use Rattle.geometry.specs.Banks.{pageQuadsOf}
 use Rattle.device.specs.declared.record.Device.{Device}
 use Rattle.device.specs.Record.{bfswap, pfswap}
-use Rattle.device.specs.Protection.{protectedOf}
+use Rattle.operation.specs.Protection.{protectedOf}
 use Rattle.sheet.specs.declared.state.PageState.{PageState}
 
 -- "quads that aren't all ones": 1 for such a quad

@@ -11,11 +11,11 @@ use crate::line::LINE_BYTES;
 use crate::line::put_line;
 use crate::state::kind_pages;
 use crate::state::page_state;
-use device::opening::opening;
 use device::record::Device;
 use geometry::banks::Geometry;
 use geometry::banks::pages;
 use geometry::lent::Lent;
+use opening::opening::opening;
 use words::decline::Decline;
 
 // The answer to the request, and the bytes of the sheet: 0 where it is declined.

@@ -18,7 +18,7 @@ use Rattle.words.proofs.PickLaws.{pick-both}
 use Rattle.words.proofs.QuadLaws.{put-length, put-other-quad, put-same-quad}
 use Rattle.geometry.specs.declared.banks.Geometry.{Geometry}
 use Rattle.geometry.specs.Banks.{InRange, pagesOf, pageQuadsOf, bootQuadsOf, bankWordsOf}
-use Rattle.map.specs.Sequence.{sequenceQuadOf, sequenceIndexOf, nextSequenceOf}
+use Rattle.sequence.specs.Sequence.{sequenceQuadOf, sequenceIndexOf, nextSequenceOf}
 use Rattle.update.specs.Actions.{erasedPageOf, programQuadsOf, programmedQuadOf, newQuadOf, bankQuadsOf}
 
 -- quad x of the erasing

@@ -4,13 +4,13 @@ use mathlib.Core.Path.{_≡_, refl}
 use Prim.Native.Nat.{ℕ}
 use Rattle.geometry.specs.Banks.{listedOf, inRangeOf}
 use Rattle.geometry.specs.Lent.{lengthsFitOf, lentDeclineOf}
-use Rattle.map.specs.Sequence.{complementOf, validOf, bfswapOf}
+use Rattle.sequence.specs.Sequence.{complementOf, validOf, bfswapOf}
 use Rattle.device.specs.declared.record.Device.{Device}
 use Rattle.device.specs.Record.{registerOf, powerOn}
-use Rattle.device.specs.Possible.{implementedOf, possibleOf}
-use Rattle.device.specs.Opening.{openingOf}
-use Rattle.device.proofs.Bench as device-bench
-use Rattle.controller.specs.Reset.{comparedOf, resetConOf, resetDeviceOf}
+use Rattle.opening.specs.Possible.{implementedOf, possibleOf}
+use Rattle.opening.specs.Opening.{openingOf}
+use Rattle.operation.proofs.Bench as operation-bench
+use Rattle.resets.specs.Reset.{comparedOf, resetConOf, resetDeviceOf}
 use Rattle.update.specs.Actions.{totalOf}
 use Rattle.update.specs.Start.{clashOf, sequenceAllowsOf, upperFreeOf, startDeclineOf, startOf}
 use Rattle.update.specs.Bench.{smallest, benchBank, Bench}
@@ -28,7 +28,7 @@ unfolding listedOf inRangeOf lengthsFitOf lentDeclineOf complementOf validOf bfs
     clashOf sequenceAllowsOf upperFreeOf startDeclineOf startOf
 bench =
     record {
-      device = device-bench.bench;
+      operation = operation-bench.bench;
       total-small = λ g n q. rw (n, q);
       total-large = λ g n q. rw (n, q);
       last-but-one = λ image e. rw e;

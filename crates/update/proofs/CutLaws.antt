@@ -18,14 +18,14 @@ use Rattle.words.proofs.QuadLaws.{put-length}
 use Rattle.geometry.specs.declared.banks.Geometry.{Geometry}
 use Rattle.geometry.specs.Banks.{InRange, pagesOf, pageQuadsOf, bankWordsOf}
 use Rattle.words.specs.Decline.{acceptedOf}
-use Rattle.map.specs.Sequence.{sequenceQuadOf, sequenceIndexOf, nextSequenceOf}
+use Rattle.sequence.specs.Sequence.{sequenceQuadOf, sequenceIndexOf, nextSequenceOf}
 use Rattle.geometry.proofs.SizeLaws.{in-range}
 use Rattle.device.specs.declared.record.Device.{Device}
 use Rattle.device.specs.Record.{running}
 use Rattle.access.proofs.AcceptedLaws.{AtRest}
 use Rattle.flash.specs.Effect.{effect, effectOf}
 use Rattle.flash.specs.Step.{After, after, oneAfter, twoAfter}
-use Rattle.controller.specs.Reset.{comparedOf, resetDeclineOf, resetDeviceOf, tornQuadOf, oneTornOf, twoTornOf, restartOf, resetOf}
+use Rattle.resets.specs.Reset.{comparedOf, resetDeclineOf, resetDeviceOf, tornQuadOf, oneTornOf, twoTornOf, restartOf, resetOf}
 use Rattle.machine.specs.Machine.{State, state, left, Sound}
 use Rattle.update.specs.Actions.{clearingStores, unprotectingStores, pageStores, quadStores, erasedPageOf, programmedQuadOf, newQuadOf, bankQuadsOf, totalOf}
 use Rattle.update.specs.Start.{clashOf}

@@ -9,7 +9,7 @@ use lib.Dec.{lit<}
 use lib.ListN.{length, replicate, set, length-replicate}
 use Rattle.words.specs.Word.{allOnes}
 use Rattle.geometry.specs.Banks.{bankWordsOf}
-use Rattle.map.specs.Sequence.{sequenceIndexOf, complementOf, sequenceWordOf, nextSequenceOf}
+use Rattle.sequence.specs.Sequence.{sequenceIndexOf, complementOf, sequenceWordOf, nextSequenceOf}
 use Rattle.machine.specs.Machine.{bankOf}
 use Rattle.update.specs.Actions.{totalOf}
 use Rattle.update.specs.PowerFail.{at, afterTurns, placeAfter, NoneDeclined, ShortSrams, Cut, restarted, Runs, newBankOf, Words, Update}

@@ -16,8 +16,8 @@ use Rattle.words.specs.declared.decline.Decline.{Decline}
 use Rattle.geometry.specs.Banks.{inRangeOf, InRange, pageQuadsOf, pagesOf, bankWordsOf}
 use Rattle.device.specs.declared.record.Device.{Device}
 use Rattle.device.specs.Record.{running}
-use Rattle.device.specs.Possible.{possibleOf}
-use Rattle.device.proofs.OpeningLaws.{opens}
+use Rattle.opening.specs.Possible.{possibleOf}
+use Rattle.opening.proofs.OpeningLaws.{opens}
 use Rattle.access.specs.Store.{hasFormOf}
 use Rattle.flash.specs.Effect.{effectOf}
 use Rattle.flash.specs.Step.{stepDeclineOf, stepAcceptedOf, stepOf}

@@ -18,15 +18,15 @@ use Rattle.geometry.specs.Banks.{InRange, pagesOf, pageQuadsOf, programBytesOf}
 use Rattle.device.specs.declared.record.Device.{Device}
 use Rattle.device.specs.Registers.{WR, WREN, WRERR, LVDERR, PFSWAP, BFSWAP, NVMOP, UBWPULOCK}
 use Rattle.device.specs.Record.{withCon, running, bfswap, pfswap, opOf, isOpen}
-use Rattle.device.specs.Protection.{pwpOf}
-use Rattle.device.specs.Operation.{beginsAtOf}
-use Rattle.device.proofs.PossibleLaws.{possible}
+use Rattle.operation.specs.Protection.{pwpOf}
+use Rattle.operation.specs.Operation.{beginsAtOf}
+use Rattle.opening.proofs.PossibleLaws.{possible}
 use Rattle.access.specs.declared.store.Stored.{Stored}
-use Rattle.access.specs.Launch.{launched}
+use Rattle.fields.specs.Launch.{launched}
 use Rattle.access.specs.Store.{hasFormOf, accepted, storeOf}
-use Rattle.access.specs.StartUp.{Access, access, storesOf, keyStores}
+use Rattle.start_up.specs.StartUp.{Access, access, storesOf, keyStores}
 use Rattle.access.proofs.AcceptedLaws.{AtRest}
-use Rattle.access.proofs.StartUpLaws.{stores-append}
+use Rattle.start_up.proofs.StartUpLaws.{stores-append}
 use Rattle.machine.proofs.StoreEquations.{withAddress, withData, withBwp, launch-clears, launch-begins, address-store, data-store, clear-wren, set-wren, plain-op, launch-store, upper-store, keys-open, store-accepted, wr-off}
 use Rattle.machine.proofs.StoreLaws.{store-possible}
 use Rattle.machine.proofs.RestLaws.{NoLaunch, NoLaunches, no-launch-rests, stores-rest}

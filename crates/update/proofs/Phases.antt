@@ -10,12 +10,12 @@ use Rattle.words.specs.Word.{pick, hasOf}
 use Rattle.words.specs.Quad.{wordAt}
 use Rattle.geometry.specs.declared.banks.Geometry.{Geometry}
 use Rattle.geometry.specs.Banks.{inRangeOf, pagesOf, pageQuadsOf, programBytesOf, bankWordsOf}
-use Rattle.map.specs.Sequence.{sequenceIndexOf, tseqOf, validOf}
+use Rattle.sequence.specs.Sequence.{sequenceIndexOf, tseqOf, validOf}
 use Rattle.device.specs.declared.record.Device.{Device}
 use Rattle.device.specs.Registers.{UBWPULOCK}
 use Rattle.device.specs.Record.{withCon, bfswap, pfswap}
-use Rattle.device.specs.Protection.{pwpOf}
-use Rattle.access.specs.StartUp.{storesOf}
+use Rattle.operation.specs.Protection.{pwpOf}
+use Rattle.start_up.specs.StartUp.{storesOf}
 use Rattle.access.proofs.AcceptedLaws.{AtRest}
 use Rattle.machine.specs.Machine.{State, state, Sound}
 use Rattle.machine.proofs.StoreEquations.{withAddress, withData}

@@ -15,7 +15,7 @@ use Rattle.words.specs.Word.{pick}
 use Rattle.words.specs.Quad.{wordAt}
 use Rattle.geometry.specs.declared.banks.Geometry.{Geometry}
 use Rattle.geometry.specs.Banks.{pagesOf, pageQuadsOf}
-use Rattle.access.specs.StartUp.{Access, access}
+use Rattle.start_up.specs.StartUp.{Access, access}
 use Rattle.update.specs.declared.actions.Action.{Action}
 use Rattle.update.specs.declared.actions.Action.the-variants.{Store, Step}
 use Rattle.update.specs.Actions.{stored, prologue, launchStores, upperAddressOf, clearingStores, unprotectingStores, endStores, pageStores, quadStores, quadBlock, erasedPageOf, programmedQuadOf, newQuadOf, bankQuadsOf, totalOf, pageActions, programmingFrom, pageActionOf, quadActionOf, actionAtOf}

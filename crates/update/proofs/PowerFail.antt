@@ -19,16 +19,16 @@ use Rattle.geometry.specs.declared.banks.Geometry.{Geometry}
 use Rattle.words.specs.declared.decline.Decline.{Decline}
 use Rattle.geometry.specs.Banks.{inRangeOf, InRange, bankWordsOf}
 use Rattle.words.specs.Decline.{acceptedOf}
-use Rattle.map.specs.Sequence.{sequenceQuadOf, sequenceIndexOf, nextSequenceOf}
+use Rattle.sequence.specs.Sequence.{sequenceQuadOf, sequenceIndexOf, nextSequenceOf}
 use Rattle.geometry.proofs.SizeLaws.{in-range}
 use Rattle.device.specs.declared.record.Device.{Device}
 use Rattle.device.specs.Record.{running, bfswap, pfswap}
-use Rattle.device.specs.Possible.{possibleOf}
-use Rattle.device.specs.Opening.{openingOf}
-use Rattle.device.proofs.OpeningLaws.{opens}
-use Rattle.access.specs.StartUp.{startUpOf}
+use Rattle.opening.specs.Possible.{possibleOf}
+use Rattle.opening.specs.Opening.{openingOf}
+use Rattle.opening.proofs.OpeningLaws.{opens}
+use Rattle.start_up.specs.StartUp.{startUpOf}
 use Rattle.flash.specs.Step.{After}
-use Rattle.controller.specs.Reset.{resetDeclineOf, resetDeviceOf, resetOf}
+use Rattle.resets.specs.Reset.{resetDeclineOf, resetDeviceOf, resetOf}
 use Rattle.machine.specs.Protection.{protectedWordOf}
 use Rattle.machine.specs.Machine.{Operation, State, state, left, bankOf, transitionOf, answerOf, Sound}
 use Rattle.machine.proofs.Machine.{controller}

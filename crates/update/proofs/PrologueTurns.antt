@@ -14,7 +14,7 @@ use Rattle.geometry.specs.Banks.{InRange, pagesOf, pageQuadsOf}
 use Rattle.geometry.proofs.SizeLaws.{in-range}
 use Rattle.device.specs.declared.record.Device.{Device}
 use Rattle.access.specs.Store.{hasFormOf}
-use Rattle.access.specs.StartUp.{Access, access, storesOf}
+use Rattle.start_up.specs.StartUp.{Access, access, storesOf}
 use Rattle.access.proofs.AcceptedLaws.{AtRest}
 use Rattle.machine.specs.Machine.{Sound}
 use Rattle.machine.proofs.RestLaws.{NoLaunches}

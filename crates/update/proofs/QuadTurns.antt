@@ -14,15 +14,15 @@ use Rattle.words.specs.Quad.{wordAt, quadAt, putQuad, blankQuad}
 use Rattle.words.proofs.PickLaws.{pick-both}
 use Rattle.geometry.specs.declared.banks.Geometry.{Geometry}
 use Rattle.geometry.specs.Banks.{InRange, bankWordsOf}
-use Rattle.map.specs.Sequence.{sequenceQuadOf, sequenceIndexOf, nextSequenceOf}
+use Rattle.sequence.specs.Sequence.{sequenceQuadOf, sequenceIndexOf, nextSequenceOf}
 use Rattle.geometry.proofs.SizeLaws.{in-range}
 use Rattle.device.specs.declared.record.Device.{Device}
 use Rattle.device.specs.Registers.{WR, WREN, WRERR, PFSWAP, BFSWAP, NVMOP}
 use Rattle.device.specs.Record.{withCon, running, bfswap, pfswap, opOf}
-use Rattle.device.specs.Operation.{lengthOf}
-use Rattle.device.proofs.PossibleLaws.{idle-step}
+use Rattle.operation.specs.Operation.{lengthOf}
+use Rattle.opening.proofs.PossibleLaws.{idle-step}
 use Rattle.access.specs.Store.{hasFormOf, accepted, storeOf}
-use Rattle.access.specs.StartUp.{Access, access, storesOf}
+use Rattle.start_up.specs.StartUp.{Access, access, storesOf}
 use Rattle.access.proofs.AcceptedLaws.{AtRest}
 use Rattle.flash.specs.Effect.{effect, effectOf}
 use Rattle.flash.specs.Step.{advanceOf}

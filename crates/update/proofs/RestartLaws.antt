@@ -21,18 +21,18 @@ use Rattle.geometry.proofs.SizeLaws.{in-range}
 use Rattle.device.specs.declared.record.Device.{Device}
 use Rattle.device.specs.Registers.{WR, WREN, LVDERR, PFSWAP, BFSWAP, NVMOP, UBWPULOCK, NVMERS, SWAPLOCK}
 use Rattle.device.specs.Record.{registerOf, withCon, running, bfswap, pfswap, opOf, isOpen}
-use Rattle.device.specs.Operation.{lengthOf}
-use Rattle.device.specs.Protection.{pwpOf}
-use Rattle.device.specs.Possible.{possibleOf}
+use Rattle.operation.specs.Operation.{lengthOf}
+use Rattle.operation.specs.Protection.{pwpOf}
+use Rattle.opening.specs.Possible.{possibleOf}
 use Rattle.access.specs.declared.store.Stored.{Stored}
-use Rattle.access.specs.Fields.{conTakesOf}
+use Rattle.fields.specs.Fields.{conTakesOf}
 use Rattle.access.specs.Store.{hasFormOf, storeDeclineOf, launchesOf, conStoreOf, appliedOf, accepted, storeAcceptedOf, storeOf}
-use Rattle.access.specs.StartUp.{Access, access, storesOf, keyStores, startUpStores, startUpDeclineOf, startUpOf}
+use Rattle.start_up.specs.StartUp.{Access, access, storesOf, keyStores, startUpStores, startUpDeclineOf, startUpOf}
 use Rattle.access.proofs.AcceptedLaws.{AtRest, rest-opens}
-use Rattle.access.proofs.StartUpLaws.{stores-append}
+use Rattle.start_up.proofs.StartUpLaws.{stores-append}
 use Rattle.flash.specs.declared.step.Advanced.{Advanced}
 use Rattle.flash.specs.Step.{advanceOf}
-use Rattle.controller.specs.Reset.{resetConOf, resetDeviceOf}
+use Rattle.resets.specs.Reset.{resetConOf, resetDeviceOf}
 use Rattle.machine.proofs.DeviceLaws.{reset-swap, reset-possible}
 use Rattle.machine.proofs.StoreEquations.{store-runs, key-rest, keys-open, wr-off}
 use Rattle.machine.proofs.RestLaws.{no-launch-rests}

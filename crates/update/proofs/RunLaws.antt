@@ -14,13 +14,13 @@ use Rattle.words.specs.Quad.{wordAt}
 use Rattle.geometry.specs.declared.banks.Geometry.{Geometry}
 use Rattle.words.specs.declared.decline.Decline.{Decline}
 use Rattle.geometry.specs.Banks.{InRange}
-use Rattle.map.specs.Sequence.{sequenceIndexOf}
+use Rattle.sequence.specs.Sequence.{sequenceIndexOf}
 use Rattle.geometry.proofs.SizeLaws.{in-range}
 use Rattle.device.specs.declared.record.Device.{Device}
 use Rattle.device.specs.Record.{bfswap}
-use Rattle.device.specs.Opening.{openingOf}
-use Rattle.device.proofs.OpeningLaws.{opens}
-use Rattle.access.specs.StartUp.{Access, access}
+use Rattle.opening.specs.Opening.{openingOf}
+use Rattle.opening.proofs.OpeningLaws.{opens}
+use Rattle.start_up.specs.StartUp.{Access, access}
 use Rattle.flash.specs.Effect.{effectOf}
 use Rattle.flash.specs.Step.{stepDeclineOf, stepOf}
 use Rattle.machine.specs.Machine.{State, left, bankOf, transitionOf, runOf, Sound}

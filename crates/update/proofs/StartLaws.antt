@@ -16,17 +16,17 @@ use Rattle.geometry.specs.declared.banks.Geometry.{Geometry}
 use Rattle.words.specs.declared.decline.Decline.{Decline}
 use Rattle.geometry.specs.Banks.{inRangeOf, InRange, programBytesOf, bankWordsOf}
 use Rattle.words.specs.Decline.{acceptedOf}
-use Rattle.map.specs.Sequence.{sequenceIndexOf, validOf}
+use Rattle.sequence.specs.Sequence.{sequenceIndexOf, validOf}
 use Rattle.words.proofs.DeclineLaws.{held, passed, neither}
 use Rattle.geometry.proofs.SizeLaws.{in-range}
 use Rattle.device.specs.declared.record.Device.{Device}
 use Rattle.device.specs.Registers.{UBWPULOCK}
 use Rattle.device.specs.Record.{running, bfswap, pfswap}
-use Rattle.device.specs.Protection.{pwpOf}
-use Rattle.device.specs.Opening.{openingOf}
-use Rattle.device.proofs.OpeningLaws.{ready, opens}
-use Rattle.controller.specs.Read.{same}
-use Rattle.controller.specs.Reset.{comparedOf}
+use Rattle.operation.specs.Protection.{pwpOf}
+use Rattle.opening.specs.Opening.{openingOf}
+use Rattle.opening.proofs.OpeningLaws.{ready, opens}
+use Rattle.reads.specs.Read.{same}
+use Rattle.resets.specs.Reset.{comparedOf}
 use Rattle.machine.specs.Machine.{State, state, bankOf, Sound}
 use Rattle.update.specs.Start.{lowerWordOf, otherWordOf, clashOf, lowerValidOf, resetKeepsOf, swapsAgreeOf, otherSafeOf, sequenceAllowsOf, nextExistsOf, upperFreeOf, startDeclineOf, startOf}
 use Rattle.update.specs.PowerFail.{Words, at, Update}

@@ -18,11 +18,11 @@ use Rattle.device.specs.declared.record.Device.{Device}
 use Rattle.device.specs.Registers.{WREN, NVMOP, BFSWAP, SWAPLOCK}
 use Rattle.device.specs.Record.{registerOf, withCon, bfswap, isOpen}
 use Rattle.access.specs.declared.store.Stored.{Stored}
-use Rattle.access.specs.Fields.{wantedOf, conTakesOf}
+use Rattle.fields.specs.Fields.{wantedOf, conTakesOf}
 use Rattle.access.specs.Store.{hasFormOf, conStoreOf, appliedOf, accepted, storeAcceptedOf, storeOf}
-use Rattle.access.specs.StartUp.{Access, access, storesOf}
+use Rattle.start_up.specs.StartUp.{Access, access, storesOf}
 use Rattle.access.proofs.AcceptedLaws.{AtRest}
-use Rattle.access.proofs.StartUpLaws.{stores-append}
+use Rattle.start_up.proofs.StartUpLaws.{stores-append}
 use Rattle.machine.proofs.StoreEquations.{store-runs}
 use Rattle.machine.proofs.ChangeLaws.{con-keeps}
 use Rattle.machine.proofs.RestLaws.{NoLaunch, NoLaunches, no-launch-rests, stores-rest}

@@ -2,7 +2,7 @@
 use mathlib.Core.Path.{_≡_, refl, sym, _∙_}
 use mathlib.Core.Bool.{Bool, true, false, not, Bool·beq}
 use borrow.Author.Tests.{not-true, not-false}
-use Rattle.controller.specs.Read.{same}
+use Rattle.reads.specs.Read.{same}
 
 tested : (a c : Bool) → Bool·beq a c ≡ same a c
 tested true true = refl

@@ -16,8 +16,8 @@ use Rattle.words.specs.declared.decline.Decline.{Decline}
 use Rattle.geometry.specs.Banks.{inRangeOf, bankWordsOf}
 use Rattle.words.specs.Decline.{acceptedOf}
 use Rattle.words.proofs.DeclineLaws.{neither}
-use Rattle.device.specs.Opening.{openingOf}
-use Rattle.device.proofs.OpeningLaws.{ready, opens}
+use Rattle.opening.specs.Opening.{openingOf}
+use Rattle.opening.proofs.OpeningLaws.{ready, opens}
 use Rattle.machine.specs.Machine.{State, left, Sound}
 use Rattle.update.specs.Actions.{totalOf}
 use Rattle.update.specs.Turn.{nextActionOf, actionDeclineOf, turnDeclineOf, turning, performOf, performed, Turning, turnOf}

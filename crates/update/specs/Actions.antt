@@ -8,8 +8,8 @@ use Rattle.words.specs.Quad.{wordAt, quadAt}
 use Rattle.geometry.specs.declared.banks.Geometry.{Geometry}
 use Rattle.geometry.specs.Banks.{pagesOf, pageQuadsOf, bootQuadsOf}
 use Rattle.map.specs.Windows.{upperBoot, upperProgram}
-use Rattle.map.specs.Sequence.{sequenceQuadOf, nextSequenceOf}
-use Rattle.access.specs.StartUp.{Access, access, keyStores}
+use Rattle.sequence.specs.Sequence.{sequenceQuadOf, nextSequenceOf}
+use Rattle.start_up.specs.StartUp.{Access, access, keyStores}
 use Rattle.update.specs.declared.actions.Action.{Action}
 use Rattle.update.specs.declared.actions.Action.the-variants.{Store, Step}
 

@@ -9,9 +9,9 @@ use Rattle.geometry.specs.declared.banks.Geometry.{Geometry}
 use Rattle.words.specs.declared.decline.Decline.{Decline}
 use Rattle.geometry.specs.Banks.{pagesOf, bankWordsOf}
 use Rattle.words.specs.Decline.{numberOf, acceptedOf}
-use Rattle.map.specs.Sequence.{sequenceIndexOf}
+use Rattle.sequence.specs.Sequence.{sequenceIndexOf}
 use Rattle.device.specs.Record.{powerOn}
-use Rattle.device.specs.Bench as device-bench
+use Rattle.operation.specs.Bench as operation-bench
 use Rattle.machine.specs.Machine.{State, state}
 use Rattle.update.specs.Actions.{totalOf}
 use Rattle.update.specs.Start.{startOf}
@@ -32,7 +32,7 @@ abbrev pub benchStart : ℕ → ℕ → List ℕ → Decline
 benchStart first second image = startOf smallest (benchState first second) image .decline
 
 pub record Bench : Type 0 where
-  pub device : device-bench.Bench
+  pub operation : operation-bench.Bench
   -- ★ "Total for N=2, Q=1: 252"
   pub total-small : (g : Geometry) → pagesOf g ≡ 2 → g .q ≡ 1 → totalOf g ≡ 252
   -- ★ "N=69, Q=128: 989,748"

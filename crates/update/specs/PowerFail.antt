@@ -8,11 +8,11 @@ use lib.ListN.{length}
 use Rattle.words.specs.Quad.{wordAt, putQuad}
 use Rattle.geometry.specs.declared.banks.Geometry.{Geometry}
 use Rattle.words.specs.Decline.{acceptedOf}
-use Rattle.map.specs.Sequence.{sequenceQuadOf, nextSequenceOf}
+use Rattle.sequence.specs.Sequence.{sequenceQuadOf, nextSequenceOf}
 use Rattle.device.specs.Record.{bfswap, pfswap}
-use Rattle.access.specs.StartUp.{startUpOf}
+use Rattle.start_up.specs.StartUp.{startUpOf}
 use Rattle.flash.specs.Step.{After}
-use Rattle.controller.specs.Reset.{resetOf}
+use Rattle.resets.specs.Reset.{resetOf}
 use Rattle.machine.specs.Protection.{protectedWordOf}
 use Rattle.machine.specs.Machine.{State, state, left, bankOf}
 use Rattle.update.specs.Actions.{totalOf}

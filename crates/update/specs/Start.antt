@@ -11,15 +11,15 @@ use Rattle.geometry.specs.declared.banks.Geometry.{Geometry}
 use Rattle.words.specs.declared.decline.Decline.{Decline}
 use Rattle.geometry.specs.Banks.{programBytesOf}
 use Rattle.words.specs.Decline.{acceptedOf, firstOf}
-use Rattle.map.specs.Sequence.{sequenceIndexOf, tseqOf, cseqOf, validOf}
+use Rattle.sequence.specs.Sequence.{sequenceIndexOf, tseqOf, cseqOf, validOf}
 use Rattle.device.specs.declared.record.Device.{Device}
 use Rattle.device.specs.Registers.{UBWPULOCK}
 use Rattle.device.specs.Record.{running, bfswap, pfswap}
-use Rattle.device.specs.Protection.{pwpOf}
-use Rattle.device.specs.Opening.{openingOf}
-use Rattle.controller.specs.Read.{same}
-use Rattle.controller.specs.Reset.{comparedOf}
-use Rattle.controller.specs.Parts.{lowerOf}
+use Rattle.operation.specs.Protection.{pwpOf}
+use Rattle.opening.specs.Opening.{openingOf}
+use Rattle.reads.specs.Read.{same}
+use Rattle.resets.specs.Reset.{comparedOf}
+use Rattle.parts.specs.Parts.{lowerOf}
 use Rattle.machine.specs.Machine.{State}
 use Rattle.update.specs.declared.start.Started.{Started}
 use Rattle.update.specs.Actions.{totalOf}

@@ -11,7 +11,7 @@ use Rattle.words.specs.declared.decline.Decline.{Decline}
 use Rattle.words.specs.Decline.{acceptedOf, firstOf}
 use Rattle.device.specs.declared.record.Device.{Device}
 use Rattle.device.specs.Record.{running}
-use Rattle.device.specs.Opening.{openingOf}
+use Rattle.opening.specs.Opening.{openingOf}
 use Rattle.access.specs.declared.store.Stored.{Stored}
 use Rattle.access.specs.Store.{hasFormOf, storeOf}
 use Rattle.flash.specs.Step.{After, after, stepOf}

@@ -11,10 +11,10 @@ use Rattle.geometry.specs.Banks.{pageWordsOf}
 use Rattle.device.specs.declared.record.Device.{Device}
 use Rattle.access.specs.declared.store.Stored.{Stored}
 use Rattle.access.specs.declared.store.RegisterRead.{RegisterRead}
-use Rattle.access.specs.declared.start_up.StartedUp.{StartedUp}
+use Rattle.start_up.specs.declared.start_up.StartedUp.{StartedUp}
 use Rattle.flash.specs.Step.{After}
-use Rattle.controller.specs.declared.read.FlashRead.{FlashRead}
-use Rattle.controller.specs.Parts.{lowerBankDeclineOf, lowerOf, lowerBankOf, pageDeclineOf}
+use Rattle.reads.specs.declared.read.FlashRead.{FlashRead}
+use Rattle.parts.specs.Parts.{lowerBankDeclineOf, lowerOf, lowerBankOf, pageDeclineOf}
 use Rattle.script.specs.declared.play.PlayLength.{PlayLength}
 use Rattle.script.specs.Play.{Playback}
 use Rattle.update.specs.declared.start.Started.{Started}

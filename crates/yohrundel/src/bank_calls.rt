@@ -2,9 +2,9 @@
 ghost use mathlib.Core.Path.{_≡_};
 ghost use lib.ListN.{length, take, drop};
 ghost use Rattle.flash.specs.Step.{stepOf};
-ghost use Rattle.controller.specs.Reset.{resetOf};
-ghost use Rattle.controller.specs.Read.{flashReadOf};
-ghost use Rattle.controller.specs.Parts.{lowerBankOf, pagePartOf};
+ghost use Rattle.resets.specs.Reset.{resetOf};
+ghost use Rattle.reads.specs.Read.{flashReadOf};
+ghost use Rattle.parts.specs.Parts.{lowerBankOf, pagePartOf};
 ghost use Rattle.yohrundel.specs.Answers.{flashReadAnswerOf, lowerBankAnswerOf, pageAnswerOf, StepGives, ResetGives};
 use crate::answers::DeviceAnswer;
 use crate::answers::EventAnswer;
@@ -12,15 +12,15 @@ use crate::answers::FlashReadAnswer;
 use crate::answers::LowerBankAnswer;
 use crate::answers::Mask;
 use crate::answers::PageAnswer;
-use controller::parts::lower_bank_decline;
-use controller::parts::page_decline;
-use controller::read::flash_read;
-use controller::reset::reset;
 use device::record::Device;
 use device::registers::Nvmcon;
 use flash::step::step;
 use geometry::banks::Geometry;
 use geometry::banks::page_words;
+use parts::parts::lower_bank_decline;
+use parts::parts::page_decline;
+use reads::read::flash_read;
+use resets::reset::reset;
 use words::word::has;
 
 #[no_mangle]

@@ -2,17 +2,17 @@
 ghost use mathlib.Core.Path.{_≡_};
 ghost use Rattle.device.specs.Record.{powerOn};
 ghost use Rattle.access.specs.Store.{storeOf, registerReadOf};
-ghost use Rattle.access.specs.StartUp.{startUpOf};
+ghost use Rattle.start_up.specs.StartUp.{startUpOf};
 ghost use Rattle.yohrundel.specs.Answers.{storeAnswerOf, registerReadAnswerOf, startUpAnswerOf};
 use crate::answers::DeviceAnswer;
 use crate::answers::EventAnswer;
 use crate::answers::RegisterReadAnswer;
-use access::start_up::start_up;
 use access::store::register_read;
 use access::store::store;
 use device::record::Device;
 use device::record::power_on;
 use geometry::banks::Geometry;
+use start_up::start_up::start_up;
 
 // The device after power-on, before any comparison of banks.
 #[no_mangle]

@@ -3,7 +3,7 @@ use Prim.Native.Nat.{_≤_, _-_}
 use mathlib.Core.Path.{_≡_}
 use borrow.Author.Needs.{needs}
 use lib.ListN.{length}
-use Rattle.conformance_cases.specs.Output.{Used}
+use Rattle.conformance_io.specs.Output.{Used}
 use Rattle.conformance.proofs.answers.put_lines.Statement.{statement}
 use Rattle.conformance.proofs.answers.put_lines.Tie as tie
 

@@ -3,7 +3,7 @@ use borrow.Author.Needs.{needs}
 use borrow.Author.Tests.{le-leb, lt-leb}
 use native.Mathlib.Omega.{arith}
 use Rattle.words.proofs.DeclineLaws.{stopped, went-on}
-use Rattle.device.proofs.OpeningLaws.{ready}
+use Rattle.opening.proofs.OpeningLaws.{ready}
 use Rattle.sheet.specs.Sheet.{sheetBytesOf, pageSheetDeclineOf}
 use Rattle.sheet.proofs.sheet.page_sheet_decline.Statement.{statement}
 use Rattle.sheet.proofs.sheet.page_sheet_decline.Tie as tie

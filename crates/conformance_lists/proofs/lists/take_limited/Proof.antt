@@ -1,0 +1,47 @@
+-- The list's length was asked for first: it lies within the buffer, and filling the buffer keeps its length.
+use mathlib.Core.Path.{sym}
+use native.Mathlib.Omega.{arith}
+use borrow.Author.Needs.{needs}
+use lib.Seq.{length-take-le}
+use Rattle.conformance_lists.proofs.lists.take_limited.Statement.{statement}
+use Rattle.conformance_lists.proofs.lists.take_limited.Tie as tie
+
+returns-6 : tie.Need-returns-6
+returns-6 c =
+    record {
+      within = search needs;
+      allowed = search needs;
+      fits = search needs;
+      front = sym (length-take-le _ _ (search needs));
+    }
+
+pub take-limited-spec : {M : Type 1} → statement M
+take-limited-spec =
+    tie.close
+    (tie.spec
+    (λ c κs. search needs)
+    (λ c. search needs)
+    (λ c κs. search needs)
+    (λ c κs. search needs)
+    (λ c. search needs)
+    (λ c κs. search needs)
+    (λ c. search needs)
+    (λ c κs. search needs)
+    (λ c. search needs)
+    (λ c. search needs)
+    (λ c. search needs)
+    (λ c κs. search needs)
+    (λ c. search needs)
+    (λ c. search needs)
+    (λ c κs. search needs)
+    (λ c. search needs)
+    (λ c. search needs)
+    (λ c. sym (length-take-le _ _ (omega arith)))
+    (λ c. search needs)
+    (λ c κs. search needs)
+    (λ c. search needs)
+    (λ c. sym (length-take-le _ _ (search needs)))
+    (λ c. search needs)
+    (λ c κs. search needs)
+    (λ c. search needs)
+    returns-6)

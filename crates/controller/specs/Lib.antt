@@ -1,3 +1,0 @@
-pub mod Reset
-pub mod Read
-pub mod Parts

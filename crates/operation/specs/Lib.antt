@@ -1,0 +1,3 @@
+pub mod Protection
+pub mod Operation
+pub mod Bench

@@ -1,0 +1,115 @@
+// The operation that NVMOP names: its target, whether its steps begin, and how many there are.
+// What asks for InRange here is no call of the device: its callers ask in_range first.
+ghost use mathlib.Core.Path.{_≡_};
+ghost use Rattle.geometry.specs.Banks.{InRange};
+ghost use Rattle.device.specs.Record.{opOf};
+ghost use Rattle.operation.specs.Protection.{pwpOf};
+ghost use Rattle.operation.specs.Operation.{unitOf, targetOf, targetBeginsOf, regionBeginsOf, beginsOf, lengthOf};
+use crate::protection::is_program_protected;
+use crate::protection::is_protected;
+use crate::protection::pwp;
+use device::record::Device;
+use geometry::banks::Geometry;
+use geometry::banks::page_bytes;
+use geometry::banks::page_quads;
+use geometry::banks::program_bytes;
+use geometry::banks::round_down;
+use geometry::banks::row_bytes;
+use map::windows::Location;
+use map::windows::locate;
+use map::windows::page;
+
+// NVMOP.
+pub fn op(d: Device) -> u32
+    ensures { λ r. ⌜ r ≡ opOf d ⌝ }
+{
+    d.nvmcon.0 % 16
+}
+
+// What NVMADDR is rounded down to: a quad, a row or a page.
+pub fn unit(g: Geometry, op: u32) -> u32
+    requires { ⌜ InRange g ⌝ }
+    ensures { λ r. ⌜ r ≡ unitOf g op ⌝ }
+{
+    if op == 2 {
+        return 16;
+    }
+    if op == 3 {
+        return row_bytes(g);
+    }
+    page_bytes(g)
+}
+
+// Where NVMOP 2, 3 and 4 begin.
+pub fn target(g: Geometry, d: Device) -> Location
+    requires { ⌜ InRange g ⌝ }
+    ensures { λ r. ⌜ r ≡ targetOf g (opOf d) (d .nvmaddr) ⌝ }
+{
+    locate(g, round_down(d.nvmaddr, unit(g, op(d))))
+}
+
+fn target_begins(g: Geometry, d: Device) -> bool
+    requires { ⌜ InRange g ⌝ }
+    ensures { λ r. ⌜ r ≡ targetBeginsOf g (pwpOf d) (targetOf g (opOf d) (d .nvmaddr)) ⌝ }
+{
+    let l = target(g, d);
+    if !l.inside {
+        return false;
+    }
+    if !l.program {
+        return true;
+    }
+    !is_protected(g, d, true, l.upper, page(g, l))
+}
+
+// A region has a protected page where its first page is protected.
+fn region_begins(g: Geometry, d: Device, upper: bool) -> bool
+    requires { ⌜ InRange g ⌝ }
+    ensures { λ r. ⌜ r ≡ regionBeginsOf g (pwpOf d) upper ⌝ }
+{
+    !is_protected(g, d, true, upper, 0)
+}
+
+// Whether a launch begins steps.
+pub fn begins(g: Geometry, d: Device) -> bool
+    requires { ⌜ InRange g ⌝ }
+    ensures { λ r. ⌜ r ≡ beginsOf g d ⌝ }
+{
+    let op = op(d);
+    if op < 2 {
+        return false;
+    }
+    if op < 5 {
+        return target_begins(g, d);
+    }
+    if op == 5 {
+        return region_begins(g, d, false);
+    }
+    if op == 6 {
+        return region_begins(g, d, true);
+    }
+    if op == 7 {
+        return pwp(d) == 0;
+    }
+    false
+}
+
+// The number of steps.
+pub fn length(g: Geometry, op: u32) -> u32
+    requires { ⌜ InRange g ⌝ }
+    ensures { λ r. ⌜ r ≡ lengthOf g op ⌝ }
+{
+    if op == 2 {
+        return 1;
+    }
+    if op == 3 {
+        return g.q;
+    }
+    if op == 4 {
+        return 8 * g.q;
+    }
+    if op == 7 {
+        return 2 * (8 * g.q * g.p);
+    }
+    8 * g.q * g.p
+}

@@ -1,0 +1,2 @@
+// Flash reads.
+pub mod read;

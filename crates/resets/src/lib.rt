@@ -1,0 +1,2 @@
+// Resets: the tear, and the device after one.
+pub mod reset;

@@ -1,0 +1,18 @@
+-- The complement of a half word is a half word, so the sum fits.
+use Prim.Native.Nat.{ℕ, _<_}
+use native.Mathlib.Omega.{arith}
+use lib.Bits.{xor-lt}
+use Rattle.sequence.specs.Sequence.{complementOf, sequenceWordOf}
+use Rattle.sequence.proofs.SequenceLaws.{complement-below}
+use Rattle.sequence.proofs.sequence.sequence_word.Statement.{statement}
+use Rattle.sequence.proofs.sequence.sequence_word.Tie as tie
+
+pub sequence-word-spec : {M : Type 1} → statement M
+unfolding sequenceWordOf
+sequence-word-spec =
+    tie.close
+    (tie.spec
+    (λ c κs. tt)
+    (λ c. omega (arith, complement-below (c .before .args .t) (c .before .pre)))
+    (λ c. omega (arith, complement-below (c .before .args .t) (c .before .pre)))
+    (λ c. rw (c .complement .ensures)))

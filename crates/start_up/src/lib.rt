@@ -1,0 +1,2 @@
+// Start-up, as a list of stores.
+pub mod start_up;

@@ -1,0 +1,110 @@
+// The actions of an update, by place.
+// What asks for InRange, or for a place of its list, is no call of the updater: turn judges its declines first.
+ghost use mathlib.Core.Path.{_≡_};
+ghost use Prim.Native.Nat.{_+_, _<_};
+ghost use lib.ListN.{length, getD};
+ghost use Rattle.geometry.specs.Banks.{InRange, pagesOf, pageQuadsOf, bankWordsOf};
+ghost use Rattle.update.specs.declared.actions.Action.the-variants.{Step};
+ghost use Rattle.update.specs.Actions.{prologue, stored, launchStores, erasedPageOf, totalOf, pageActions, programmingFrom, pageActionOf, actionAtOf};
+use crate::programming::quad_action;
+use crate::programming::upper_address;
+use geometry::banks::Geometry;
+use geometry::banks::page_quads;
+use geometry::banks::pages;
+use update::actions::Action;
+
+// How many actions an update has.
+pub fn total(g: Geometry) -> u32
+    requires { ⌜ InRange g ⌝ }
+    ensures { λ r. ⌜ r ≡ totalOf g ⌝ }
+{
+    12 + 8 * pages(g) + 112 * (pages(g) * g.q)
+}
+
+// The prologue: errors cleared by a launch of NVMOP 0, and the upper alias freed.
+fn prologue_action(place: u32) -> Action
+    requires { ⌜ place < 12 ⌝ }
+    ensures { λ r. ⌜ r ≡ getD prologue place Step ⌝ }
+{
+    match place {
+        0 => Action::Store(0, 1, 0x4000),
+        1 => Action::Store(0, 0, 0),
+        2 => Action::Store(0, 2, 0x4000),
+        3 => Action::Store(1, 0, 0),
+        4 => Action::Store(1, 0, 0xAA99_6655),
+        5 => Action::Store(1, 0, 0x5566_99AA),
+        6 => Action::Store(0, 2, 0x8000),
+        7 => Action::Store(0, 1, 0x4000),
+        8 => Action::Store(1, 0, 0),
+        9 => Action::Store(1, 0, 0xAA99_6655),
+        10 => Action::Store(1, 0, 0x5566_99AA),
+        _ => Action::Store(9, 1, 0x1F),
+    }
+}
+
+// The stores that launch an operation whose address stands.
+pub fn launch_action(op: u32, k: u32) -> Action
+    requires { ⌜ k < 6 ⌝ }
+    ensures { λ r. ⌜ r ≡ getD (stored (launchStores op)) k Step ⌝ }
+{
+    match k {
+        0 => Action::Store(0, 0, op),
+        1 => Action::Store(0, 2, 0x4000),
+        2 => Action::Store(1, 0, 0),
+        3 => Action::Store(1, 0, 0xAA99_6655),
+        4 => Action::Store(1, 0, 0x5566_99AA),
+        _ => Action::Store(0, 2, 0x8000),
+    }
+}
+
+// Page i of the erasing, by its number in the bank.
+fn erased_page(g: Geometry, i: u32) -> u32
+    requires { ⌜ InRange g ⌝ }
+    ensures { λ r. ⌜ r ≡ erasedPageOf g i ⌝ }
+{
+    if i == 0 {
+        return g.b - 1;
+    }
+    if i < g.b {
+        return i - 1;
+    }
+    i
+}
+
+// Action k of a page of the bank: its stores, its steps, its end.
+fn page_action(g: Geometry, page: u32, k: u32) -> Action
+    requires { ⌜ InRange g ⌝ }
+    requires { ⌜ page < pagesOf g ⌝ }
+    ensures { λ r. ⌜ r ≡ pageActionOf g page k ⌝ }
+{
+    if k == 0 {
+        return Action::Store(2, 0, upper_address(g, page * page_quads(g)));
+    }
+    if k < 7 {
+        return launch_action(4, k - 1);
+    }
+    if k < 7 + page_quads(g) {
+        return Action::Step;
+    }
+    Action::Store(0, 1, 0x4000)
+}
+
+// The action of a place.
+pub fn action_at(g: Geometry, image: &[u32], w: u32, place: u32) -> Action
+    requires { ⌜ InRange g ⌝ }
+    requires { ⌜ length (now image) ≡ bankWordsOf g ⌝ }
+    requires { ⌜ place < totalOf g ⌝ }
+    ensures { λ r. ⌜ r ≡ actionAtOf g (now (image .entry)) w place ⌝ }
+{
+    if place < 12 {
+        return prologue_action(place);
+    }
+    let block = 8 + page_quads(g);
+    let programming = 12 + pages(g) * block;
+    if place < programming {
+        let from = place - 12;
+        return page_action(g, erased_page(g, from / block), from % block);
+    }
+    let from = place - programming;
+    quad_action(g, image, w, from / 13, from % 13)
+}

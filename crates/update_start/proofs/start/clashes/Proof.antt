@@ -1,0 +1,15 @@
+-- The halves, bit by bit.
+use borrow.Author.Needs.{needs}
+use native.Mathlib.Omega.{arith}
+use Rattle.update.specs.Start.{clashOf}
+use Rattle.update_start.proofs.start.clashes.Statement.{statement}
+use Rattle.update_start.proofs.start.clashes.Tie as tie
+
+pub clashes-spec : {M : Type 1} → statement M
+unfolding clashOf
+clashes-spec =
+    tie.close
+    (tie.spec
+    (λ c κs. search needs)
+    (λ c κs. search needs)
+    (λ c. rw (c .before .tseq .ensures, c .cseq .ensures)))

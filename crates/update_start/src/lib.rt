@@ -1,0 +1,2 @@
+// The firmware updater's start.
+pub mod start;

@@ -1,0 +1,119 @@
+// The update start.
+ghost use mathlib.Core.Path.{_≡_};
+ghost use lib.ListN.{length};
+ghost use Rattle.geometry.specs.Banks.{InRange, bankWordsOf};
+ghost use Rattle.machine.specs.Machine.{state};
+ghost use Rattle.update.specs.Start.{otherWordOf, clashOf, sequenceAllowsOf, upperFreeOf, startDeclineOf, startOf};
+use device::record::Device;
+use device::registers::Nvmbwp;
+use device::registers::Nvmcon;
+use geometry::banks::Geometry;
+use geometry::banks::program_bytes;
+use geometry::lent::Lent;
+use opening::opening::opening;
+use operation::protection::pwp;
+use resets::reset::compared;
+use sequence::sequence::cseq;
+use sequence::sequence::is_valid;
+use sequence::sequence::sequence_index;
+use sequence::sequence::tseq;
+use update::start::Started;
+use update_actions::actions::total;
+use update_actions::lower_word::lower_word;
+use words::decline::Decline;
+use words::word::has;
+
+// The sequence word of the other bank.
+fn other_word(g: Geometry, d: Device, one: &[u32], two: &[u32]) -> u32
+    requires { ⌜ InRange g ⌝ }
+    requires { ⌜ (length (now one) ≡ bankWordsOf g) × (length (now two) ≡ bankWordsOf g) ⌝ }
+    ensures { λ r. ⌜ r ≡ otherWordOf g (state d (now (one .entry)) (now (two .entry))) ⌝ }
+{
+    let i = sequence_index(g) as usize;
+    if has(d.nvmcon.0, Nvmcon::BFSWAP) {
+        return one[i];
+    }
+    two[i]
+}
+
+// Whether a bit position is at 1 in both halves.
+fn clashes(w: u32) -> bool
+    ensures { λ r. ⌜ r ≡ clashOf w ⌝ }
+{
+    tseq(w) & cseq(w) != 0
+}
+
+// Whether decline 10 does not apply.
+fn sequence_allows(g: Geometry, d: Device, one: &[u32], two: &[u32]) -> bool
+    requires { ⌜ InRange g ⌝ }
+    requires { ⌜ (length (now one) ≡ bankWordsOf g) × (length (now two) ≡ bankWordsOf g) ⌝ }
+    ensures { λ r. ⌜ r ≡ sequenceAllowsOf g (state d (now (one .entry)) (now (two .entry))) ⌝ }
+{
+    if !is_valid(lower_word(g, d, one, two)) {
+        return false;
+    }
+    let bfswap = has(d.nvmcon.0, Nvmcon::BFSWAP);
+    if compared(g, one, two) != bfswap {
+        return false;
+    }
+    if has(d.nvmcon.0, Nvmcon::PFSWAP) != bfswap {
+        return false;
+    }
+    let other = other_word(g, d, one, two);
+    if is_valid(other) {
+        return true;
+    }
+    clashes(other)
+}
+
+// Whether decline 12 does not apply.
+fn is_upper_free(g: Geometry, d: Device) -> bool
+    requires { ⌜ InRange g ⌝ }
+    ensures { λ r. ⌜ r ≡ upperFreeOf g d ⌝ }
+{
+    if !has(d.nvmbwp.0, Nvmbwp::UBWPULOCK) {
+        return false;
+    }
+    pwp(d) < program_bytes(g)
+}
+
+fn start_decline(g: Geometry, d: Device, one: &[u32], two: &[u32], image: usize) -> Decline
+    ensures { λ r. ⌜ r ≡ startDeclineOf g (state d (now (one .entry)) (now (two .entry))) image ⌝ }
+{
+    let decline = opening(g, d, Lent::BanksAndImage(one.len(), two.len(), image), 0);
+    if !decline.is_accepted() {
+        return decline;
+    }
+    if has(d.nvmcon.0, Nvmcon::WR) {
+        return Decline::Running;
+    }
+    if !sequence_allows(g, d, one, two) {
+        return Decline::Sequence;
+    }
+    if tseq(lower_word(g, d, one, two)) == 65535 {
+        return Decline::LastSequence;
+    }
+    if !is_upper_free(g, d) {
+        return Decline::Protection;
+    }
+    Decline::Accepted
+}
+
+// Starts an update: it changes nothing.
+pub fn start(g: Geometry, d: Device, one: &[u32], two: &[u32], image: &[u32]) -> Started
+    ensures { λ r. ⌜ r ≡ startOf g (state d (now (one .entry)) (now (two .entry))) (now (image .entry)) ⌝ }
+{
+    let decline = start_decline(g, d, one, two, image.len());
+    if !decline.is_accepted() {
+        return Started {
+            decline,
+            place: 0,
+            total: 0,
+        };
+    }
+    Started {
+        decline,
+        place: 0,
+        total: total(g),
+    }
+}

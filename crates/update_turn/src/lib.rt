@@ -1,0 +1,2 @@
+// The firmware updater's turn.
+pub mod turn;
