@@ -116,21 +116,30 @@ pub source-room : (d : Device) (sram : ℕ) → sourceFitsOf d sram ≡ true →
 unfolding sourceFitsOf
 source-room d sram h = leb-true _ _ (and-both (eqb (d .nvmsrcaddr % 4) 0) (leb (sourceWordOf d + 4) sram) h .1)
 
--- every effect works on the quad of the next step
-pub effect-quad : (g : Geometry) (d : Device) (one two sram : List ℕ) → effectOf g d one two sram .quad ≡ quadIndexOf g (stepLocationOf g d)
+-- every effect works in the bank and on the quad of the next step
+effect-place : (g : Geometry) (d : Device) (one two sram : List ℕ)
+    → (effectOf g d one two sram .second ≡ inSecondOf (stepLocationOf g d) (bfswap d) (pfswap d))
+    × (effectOf g d one two sram .quad ≡ quadIndexOf g (stepLocationOf g d))
 unfolding effectOf effectAtOf
-effect-quad g d one two sram =
+effect-place g d one two sram =
     let l = stepLocationOf g d in
     let s = inSecondOf l (bfswap d) (pfswap d) in
     let q = quadIndexOf g l in
-    pick-both P (blockedOf g d l) refl
-    (pick-both P (ltb 3 (opOf d)) refl
+    pick-both P (blockedOf g d l) (refl, refl)
+    (pick-both P (ltb 3 (opOf d)) (refl, refl)
     (pick-both P (isBlankOf (oldQuadOf one two s q))
-    (pick-both P (eqb (opOf d) 2) refl (pick-both P (sourceFitsOf d (length sram)) refl refl))
-    refl))
+    (pick-both P (eqb (opOf d) 2) (refl, refl) (pick-both P (sourceFitsOf d (length sram)) (refl, refl) (refl, refl)))
+    (refl, refl)))
   where
     P : Effect → Type 0
-    P e = e .quad ≡ quadIndexOf g (stepLocationOf g d)
+    P e = (e .second ≡ inSecondOf (stepLocationOf g d) (bfswap d) (pfswap d)) × (e .quad ≡ quadIndexOf g (stepLocationOf g d))
+
+pub effect-second : (g : Geometry) (d : Device) (one two sram : List ℕ)
+    → effectOf g d one two sram .second ≡ inSecondOf (stepLocationOf g d) (bfswap d) (pfswap d)
+effect-second g d one two sram = effect-place g d one two sram .0
+
+pub effect-quad : (g : Geometry) (d : Device) (one two sram : List ℕ) → effectOf g d one two sram .quad ≡ quadIndexOf g (stepLocationOf g d)
+effect-quad g d one two sram = effect-place g d one two sram .1
 
 pub effect-in-bank : (g : Geometry) (d : Device) (one two sram : List ℕ) (e : Effect) → Runs g d → e ≡ effectOf g d one two sram
     → 4 * e .quad + 4 ≤ bankWordsOf g

@@ -5,25 +5,21 @@ use mathlib.Core.Path.{_≡_, refl, sym, ap, _∙_}
 use mathlib.Core.Bool.{Bool, true, false, not, _&&_}
 use mathlib.Core.List.{List, []}
 use Prim.Native.Nat.{ℕ, _-_}
-use lib.Dec.{eqb, ltb}
 use lib.ListN.{length}
 use Rattle.words.specs.Word.{pick}
-use Rattle.words.specs.Quad.{wordAt, isBlankOf}
+use Rattle.words.specs.Quad.{wordAt}
 use Rattle.words.proofs.PickLaws.{pick-both, and-both}
 use Rattle.words.proofs.BitLaws.{true-not-false}
 use Rattle.words.proofs.QuadLaws.{put-length, put-other-word}
 use Rattle.geometry.specs.declared.banks.Geometry.{Geometry}
 use Rattle.words.specs.Decline.{acceptedOf}
-use Rattle.map.specs.Windows.{pageOf, quadIndexOf, inSecondOf}
-use Rattle.device.specs.declared.record.Device.{Device}
-use Rattle.device.specs.Record.{running, bfswap, pfswap, opOf}
+use Rattle.map.specs.Windows.{pageOf}
+use Rattle.device.specs.Record.{running}
 use Rattle.operation.specs.Protection.{protectedOf}
-use Rattle.flash.specs.declared.effect.Effect.{Effect}
-use Rattle.flash.specs.Effect.{Runs, stepLocationOf, blockedOf, sourceFitsOf, oldQuadOf, effectAtOf, effectOf}
+use Rattle.flash.specs.Effect.{Runs, stepLocationOf, effectOf}
 use Rattle.flash.specs.Step.{After, after, stepDeclineOf, oneAfter, twoAfter, stepAcceptedOf, stepOf}
-use Rattle.flash.proofs.EffectLaws.{effect-quad}
+use Rattle.flash.proofs.EffectLaws.{effect-second, effect-quad}
 use Rattle.flash.proofs.AcceptedLaws.{runs, step-ready}
-use Rattle.reads.specs.Read.{secondAtOf}
 use Rattle.resets.specs.Reset.{resetDeclineOf, tornQuadOf, oneTornOf, twoTornOf, restartOf, resetOf}
 use Rattle.resets.proofs.AcceptedLaws.{reset-ready}
 use Rattle.machine.specs.Machine.{Operation, State, bankOf, left, transitionOf, Outside, stepSecondOf, stepQuadOf, OneQuad}
@@ -64,22 +60,6 @@ by-reset g s sram kind mask P yes′ no′ =
     go false e = no′ e
 
 -- ---- the write of an operation
--- every effect works in the bank in which the next step stands
-effect-second : (g : Geometry) (d : Device) (one two sram : List ℕ) → effectOf g d one two sram .second ≡ secondAtOf d (stepLocationOf g d)
-unfolding effectOf effectAtOf
-effect-second g d one two sram =
-    let l = stepLocationOf g d in
-    let s = inSecondOf l (bfswap d) (pfswap d) in
-    let q = quadIndexOf g l in
-    pick-both P (blockedOf g d l) refl
-    (pick-both P (ltb 3 (opOf d)) refl
-    (pick-both P (isBlankOf (oldQuadOf one two s q))
-    (pick-both P (eqb (opOf d) 2) refl (pick-both P (sourceFitsOf d (length sram)) refl refl))
-    refl))
-  where
-    P : Effect → Type 0
-    P e = e .second ≡ secondAtOf d (stepLocationOf g d)
-
 -- the banks of t are those of s but for at most one write, of the quad of the next step
 pub record Writes (g : Geometry) (s t : State) : Type 0 where
   pub writes : Bool

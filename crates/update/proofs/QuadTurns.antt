@@ -119,13 +119,35 @@ module _ (g : Geometry) (image : List ℕ) (b : Bool) (old : List ℕ) (fixed : 
     ),
   )
 
+  -- within the stores of a quad BFSWAP stays
+  pub quad-swap : (d : Device) (new : List ℕ) (place : ℕ) → QuadStores g image b old d new place → bfswap d ≡ b
+  quad-swap d new place c =
+      rw (c .device)
+      (swap-kept g (c .quad .from) (c .quad .between .rest) true (λ _. c .quad .between .shut) (take (c .count) stores)
+      (quiet-prefix stores 10 (c .count) (omega (arith, c .few)) quiet) (shut-prefix true stores 10 (c .count) (omega (arith, c .few)) (quad-shut j words))
+      ∙ c .quad .between .boot)
+    where
+      j : ℕ
+      j = programmedQuadOf g (c .i)
+
+      words : List ℕ
+      words = newQuadOf g image (wordAt old (sequenceIndexOf g)) (programmedQuadOf g (c .i))
+
+      stores : List Access
+      stores = quadStores g (programmedQuadOf g (c .i)) (newQuadOf g image (wordAt old (sequenceIndexOf g)) (programmedQuadOf g (c .i)))
+
+      quiet : NoLaunches (take 10 stores)
+      quiet =
+          quad-quiet j (quad-below g ok (c .i) (c .quad .below)) words
+          (new-words g image (wordAt old (sequenceIndexOf g)) (programmedQuadOf g (c .i)) (fixed .image-words))
+
   module _ (d : Device) (new : List ℕ) (place : ℕ) (sram : List ℕ) (sound : Sound g (placed b d old new)) where
     pub quad-stores-go : QuadStores g image b old d new place → Goes g image b old d new place sram
     quad-stores-go c =
         goes-store g image b old d new place sram sound
         (rw (c .device) (prefix-rest g from (c .quad .between .rest) stores 10 (c .count) (omega (arith, c .few)) quiet))
         (getD stores (c .count) none) (form-at stores (quad-forms j below words each) (c .count) (c .few))
-        (rw (c .here, lower-word d new swap) (quad-store g image (wordAt old (sequenceIndexOf g)) (c .i) (c .count) (c .few)))
+        (rw (c .here, lower-word d new (quad-swap d new place c)) (quad-store g image (wordAt old (sequenceIndexOf g)) (c .i) (c .count) (c .few)))
         (go (eq-or-lt-of-le (c .few)))
       where
         from : Device
@@ -148,13 +170,6 @@ module _ (g : Geometry) (image : List ℕ) (b : Bool) (old : List ℕ) (fixed : 
 
         quiet : NoLaunches (take 10 stores)
         quiet = quad-quiet j below words each
-
-        swap : bfswap d ≡ b
-        swap =
-            rw (c .device)
-            (swap-kept g from (c .quad .between .rest) true (λ _. c .quad .between .shut) (take (c .count) stores)
-            (quiet-prefix stores 10 (c .count) (omega (arith, c .few)) quiet) (shut-prefix true stores 10 (c .count) (omega (arith, c .few)) (quad-shut j words))
-            ∙ c .quad .between .boot)
 
         next : storedNext g d stores (c .count) ≡ storesOf g from (take (suc (c .count)) stores)
         next = storing g d from stores (c .count) (c .few) (c .device)

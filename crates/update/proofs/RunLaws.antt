@@ -13,33 +13,28 @@ use Rattle.words.specs.Word.{pick}
 use Rattle.words.specs.Quad.{wordAt}
 use Rattle.geometry.specs.declared.banks.Geometry.{Geometry}
 use Rattle.words.specs.declared.decline.Decline.{Decline}
-use Rattle.geometry.specs.Banks.{InRange}
 use Rattle.sequence.specs.Sequence.{sequenceIndexOf}
-use Rattle.geometry.proofs.SizeLaws.{in-range}
 use Rattle.device.specs.declared.record.Device.{Device}
-use Rattle.device.specs.Record.{bfswap}
 use Rattle.opening.specs.Opening.{openingOf}
 use Rattle.opening.proofs.OpeningLaws.{opens}
 use Rattle.start_up.specs.StartUp.{Access, access}
 use Rattle.flash.specs.Effect.{effectOf}
 use Rattle.flash.specs.Step.{stepDeclineOf, stepOf}
 use Rattle.machine.specs.Machine.{State, left, bankOf, transitionOf, runOf, Sound}
-use Rattle.machine.proofs.RestLaws.{NoLaunches}
 use Rattle.update.specs.declared.actions.Action.{Action}
 use Rattle.update.specs.declared.actions.Action.the-variants.{Step}
-use Rattle.update.specs.Actions.{clearingStores, unprotectingStores, pageStores, quadStores, erasedPageOf, programmedQuadOf, actionsOf, actionAtOf, totalOf}
+use Rattle.update.specs.Actions.{clearingStores, unprotectingStores, pageStores, erasedPageOf, actionsOf, actionAtOf, totalOf}
 use Rattle.update.specs.Start.{lowerWordOf}
 use Rattle.update.specs.Turn.{nextActionOf, performOf}
 use Rattle.update.specs.PowerFail.{Position, at, turnedOf, turnsOf, afterTurns, placeAfter, old, Update}
 use Rattle.update.specs.Run.{operationOf, operationsOf}
-use Rattle.update.proofs.StoringLaws.{none, Shut, quiet-prefix, shut-prefix, swap-kept}
+use Rattle.update.proofs.StoringLaws.{none}
 use Rattle.update.proofs.PlaceLaws.{storeOfAccess, clearing-action, unprotecting-action, page-store, page-step, page-end, quad-store, quad-step, quad-end}
-use Rattle.update.proofs.BankLaws.{quad-below}
 use Rattle.update.proofs.TurnLaws.{turn-done, turn-cases}
-use Rattle.update.proofs.Phases.{placed, Fixed, Finished, QuadStores, newWords, Phase, Stands}
+use Rattle.update.proofs.Phases.{placed, Fixed, Finished, QuadStores, Phase, Stands}
 use Rattle.update.proofs.Phases.Phase.{in-clearing, in-unprotecting, in-page-stores, in-page-steps, at-page-end, in-quad-stores, at-quad-step, at-quad-end, at-total}
 use Rattle.update.proofs.PageTurns.{page-writes}
-use Rattle.update.proofs.QuadTurns.{new-words, lower-word, quad-quiet, quad-writes}
+use Rattle.update.proofs.QuadTurns.{lower-word, quad-swap, quad-writes}
 use Rattle.update.proofs.StandsLaws.{phase-place, stands-turn}
 use Rattle.update.proofs.StartLaws.{start-fixed, start-stands}
 use Rattle.update.proofs.ActionLaws.{actions-total, action-listed}
@@ -47,9 +42,6 @@ use Rattle.update.proofs.ActionLaws.{actions-total, action-listed}
 -- ---- one action
 module _ (g : Geometry) (image : List ℕ) (b : Bool) (old : List ℕ) (fixed : Fixed g image old) (d : Device) (new : List ℕ) (place : ℕ) (sram : List ℕ)
     (sound : Sound g (placed b d old new)) (short : length sram ≤ 16384) where
-  ok : InRange g
-  ok = in-range g (fixed .listed)
-
   -- what a place's action leaves is what the operation of the list leaves, the list being that of the old bank's sequence word
   abbrev Same : Type 0
   Same =
@@ -73,34 +65,11 @@ module _ (g : Geometry) (image : List ℕ) (b : Bool) (old : List ℕ) (fixed : 
   -- a store of a quad: BFSWAP stays, so t is read of the old bank
   quad-same : QuadStores g image b old d new place → Same
   quad-same c =
-      rw (lower-word g image b old fixed d new swap, c .here, quad-store g image (wordAt old (sequenceIndexOf g)) (c .i) (c .count) (c .few))
-    where
-      from : Device
-      from = c .quad .from
-
-      j : ℕ
-      j = programmedQuadOf g (c .i)
-
-      words : List ℕ
-      words = newWords g image b old (c .i)
-
-      stores : List Access
-      stores = quadStores g (programmedQuadOf g (c .i)) (newWords g image b old (c .i))
-
-      quiet : NoLaunches (take 10 stores)
-      quiet =
-          quad-quiet g image b old fixed j (quad-below g ok (c .i) (c .quad .below)) words
-          (new-words g image (wordAt old (sequenceIndexOf g)) j (fixed .image-words))
-
-      shut : Shut true (take 10 stores)
-      shut = (refl, (refl, (refl, (refl, (refl, (refl, (refl, (refl, (refl, (refl, tt))))))))))
-
-      swap : bfswap d ≡ b
-      swap =
-          rw (c .device)
-          (swap-kept g from (c .quad .between .rest) true (λ _. c .quad .between .shut) (take (c .count) stores)
-          (quiet-prefix stores 10 (c .count) (omega (arith, c .few)) quiet) (shut-prefix true stores 10 (c .count) (omega (arith, c .few)) shut)
-          ∙ c .quad .between .boot)
+      rw (
+        lower-word g image b old fixed d new (quad-swap g image b old fixed d new place c),
+        c .here,
+        quad-store g image (wordAt old (sequenceIndexOf g)) (c .i) (c .count) (c .few),
+      )
 
   phase-same : Phase g image b old d new place → place < totalOf g → Same
   phase-same (in-clearing c) l = store-same (getD clearingStores place none) (λ w. clearing-action g image w place (c .below))
