@@ -7,7 +7,9 @@ use super::parts::*;
 
 pub fn cases() -> Vec<Case> {
     let mut cases = Vec::new();
-    for length in (0..=20).chain([252, 253, 254, 255, 256, 257, 260, 1_024]) {
+    for length in (0..=20).chain([
+        252, 253, 254, 255, 256, 257, 260, 508, 512, 516, 1_020, 1_024, 1_028, 1_540,
+    ]) {
         cases.extend(lanes(&distinct(length), &vec![0; length]));
     }
     unequal(&mut cases);
