@@ -1,7 +1,7 @@
 // The calls that change lent banks. The SRAM stands in the spare buffer, where the banks as they were come later.
 // What asks for room in the spare buffer is no call of the device: its callers show it.
 ghost use Prim.Native.Nat.{_≤_};
-ghost use Rattle.conformance_cases.specs.Cases.{Lent};
+ghost use Rattle.conformance_io.specs.Changes.{Lent};
 use conformance_io::answer::Answer;
 use conformance_io::changes::with_changes;
 use conformance_io::records::device_of;

@@ -2,7 +2,8 @@
 // What asks for room in the spare buffer is no call of the device: its callers show it.
 ghost use Prim.Native.Nat.{_≤_};
 ghost use lib.ListN.{length};
-ghost use Rattle.conformance_cases.specs.Cases.{Lent, Parted};
+ghost use Rattle.conformance_cases.specs.Cases.{Parted};
+ghost use Rattle.conformance_io.specs.Changes.{Lent};
 use conformance_io::answer::Answer;
 use conformance_io::changes::with_changes;
 use conformance_io::records::device_of;

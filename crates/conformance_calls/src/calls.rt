@@ -1,7 +1,8 @@
 // From a call's inputs to its answer.
 ghost use Prim.Native.Nat.{_≤_, _<_};
 ghost use lib.ListN.{length};
-ghost use Rattle.conformance_cases.specs.Cases.{Lent, Parted};
+ghost use Rattle.conformance_cases.specs.Cases.{Parted};
+ghost use Rattle.conformance_io.specs.Changes.{Lent};
 use crate::names::Call;
 use conformance_answers::bank_calls::flash_read_answer;
 use conformance_answers::bank_calls::lower_bank_answer;

@@ -1,9 +1,9 @@
 -- The lists of a case in their buffers. Assumes nothing.
-use Prim.Native.Nat.{ℕ, _≤_, _<_}
+use Prim.Native.Nat.{ℕ, _≤_}
 use mathlib.Core.Path.{_≡_}
 use mathlib.Core.List.{List}
 use lib.ListN.{length, take}
-use Rattle.conformance_lists.specs.Lists.{Held, Room}
+use Rattle.conformance_lists.specs.Lists.{Held}
 use Rattle.conformance_cases.specs.declared.cases.Case.{Case}
 
 -- two lists stand in the spare buffer one after the other, up to `middle` and from there up to `end`
@@ -19,10 +19,3 @@ pub record Read (one two spare : List ℕ) (case : Case) : Type 0 where
   pub in-one : Held one (length spare) (case .one)
   pub in-two : Held two (length spare) (case .two)
   pub in-spare : Parted spare (case .middle) (case .end)
-
--- two banks, for each of which the spare buffer has room, and where the lists after them end there
-pub record Lent (one two spare : List ℕ) (end : ℕ) : Type 0 where
-  pub for-one : Room one spare
-  pub for-two : Room two spare
-  pub within : end ≤ length spare
-  pub front : end ≡ length (take end spare)

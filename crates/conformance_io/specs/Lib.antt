@@ -1,2 +1,4 @@
 pub mod Output
+pub mod Differences
+pub mod Changes
 pub mod Records

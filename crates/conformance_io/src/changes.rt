@@ -1,7 +1,7 @@
 // What a call changed in the banks.
 // What asks for room is no call of the device: its callers show it.
 ghost use Prim.Native.Nat.{_≤_};
-ghost use Rattle.conformance_lists.specs.Lists.{Room};
+ghost use Rattle.conformance_io.specs.Changes.{Room};
 use crate::answer::Answer;
 use crate::differences::next_difference;
 use conformance_lists::lists::take_list;

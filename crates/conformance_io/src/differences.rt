@@ -4,7 +4,7 @@ ghost use mathlib.Core.Path.{_≡_};
 ghost use mathlib.Core.Bool.{true};
 ghost use Prim.Native.Nat.{_≤_};
 ghost use lib.ListN.{length};
-ghost use Rattle.conformance_lists.specs.Lists.{Differs};
+ghost use Rattle.conformance_io.specs.Differences.{Differs};
 
 // The first index from a position on at which the lists differ, or the length of the first where they do not.
 pub fn next_difference(first: &[u32], second: &[u32], from: usize) -> usize

@@ -1,7 +1,6 @@
 // Standard input, in a buffer whose first bytes are held.
 // What asks for bytes within the buffer is no call of the device: its callers show it.
 ghost use Prim.Native.Nat.{_≤_};
-ghost use mathlib.Core.Path.{_≡_};
 ghost use lib.ListN.{length};
 use libc::STDIN_FILENO;
 

@@ -1,17 +1,13 @@
 -- "The device record holds eleven registers, the key step (0 to 3) and the step number". Assumes nothing.
 use Prim.Native.Nat.{ℕ, _%_}
 use mathlib.Core.Bool.{Bool}
-use mathlib.Core.List.{List, [], _∷_}
+use mathlib.Core.List.{[], _∷_}
 use lib.Dec.{eqb}
 use lib.ListN.{getD}
 use Rattle.words.specs.Word.{pick, hasOf}
 use Rattle.words.specs.Quad.{wordAt}
 use Rattle.device.specs.declared.record.Device.{Device}
-use Rattle.device.specs.declared.registers.Nvmcon.{Nvmcon}
-use Rattle.device.specs.declared.registers.Nvmpwp.{Nvmpwp}
-use Rattle.device.specs.declared.registers.Nvmbwp.{Nvmbwp}
-use Rattle.device.specs.declared.registers.Nvmcon2.{Nvmcon2}
-use Rattle.device.specs.Registers.{resets, WR, WREN, PFSWAP, BFSWAP}
+use Rattle.device.specs.Registers.{resets, WR, PFSWAP, BFSWAP}
 
 -- a register by its number, and 0 where there is none
 unfoldable pub registerOf : Device → ℕ → ℕ

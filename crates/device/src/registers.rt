@@ -2,7 +2,7 @@
 ghost use mathlib.Core.Path.{_≡_};
 ghost use Prim.Native.Nat.{_<_};
 ghost use lib.ListN.{getD};
-ghost use Rattle.device.specs.Registers.{masks, resets, withinOf};
+ghost use Rattle.device.specs.Registers.{resets, withinOf};
 
 #[repr(C)]
 pub struct Nvmcon(pub u32);

@@ -1,7 +1,7 @@
 -- The quad of a running operation's next step lies in its window, and so in its bank, for every operation and size.
 -- Assumes nothing.
 use mathlib.Core.Path.{_≡_, refl, sym, ap, _∙_}
-use mathlib.Core.Bool.{Bool, true, false, not, _&&_}
+use mathlib.Core.Bool.{Bool, true, false, not}
 use mathlib.Core.List.{List}
 use Prim.Native.Nat.{ℕ, zero, suc, _+_, _-_, _*_, _%_, _^_, _≤_, _<_}
 use native.Mathlib.Omega.{arith}
@@ -14,7 +14,7 @@ use Rattle.words.proofs.PickLaws.{pick-both, and-both}
 use Rattle.words.proofs.BitLaws.{true-not-false}
 use Rattle.geometry.specs.declared.banks.Geometry.{Geometry}
 use Rattle.map.specs.declared.windows.Location.{Location}
-use Rattle.geometry.specs.Banks.{InRange, rowBytesOf, pageBytesOf, bankWordsOf}
+use Rattle.geometry.specs.Banks.{InRange, bankWordsOf}
 use Rattle.map.specs.Windows.{windowBytesOf, located, quadIndexOf, inSecondOf}
 use Rattle.geometry.proofs.SizeLaws.{Unit, quad-unit, row-unit, page-unit}
 use Rattle.map.proofs.WindowLaws.{unit-room, quad-in-bank}

@@ -1,12 +1,12 @@
 -- "Launch and flash steps": what the next step of a running operation does. Assumes nothing.
-use Prim.Native.Nat.{ℕ, _+_, _-_, _*_, _/_, _%_, _≤_, _<_}
+use Prim.Native.Nat.{ℕ, _+_, _-_, _*_, _/_, _%_, _<_}
 use mathlib.Core.Path.{_≡_}
-use mathlib.Core.Bool.{Bool, true, false, not, _&&_}
+use mathlib.Core.Bool.{Bool, true, false, _&&_}
 use mathlib.Core.List.{List}
 use lib.Dec.{eqb, leb, ltb}
 use lib.ListN.{length}
 use Rattle.words.specs.Word.{pick}
-use Rattle.words.specs.Quad.{quadAt, quadFrom, putQuad, isBlankOf, blankQuad}
+use Rattle.words.specs.Quad.{quadAt, quadFrom, isBlankOf, blankQuad}
 use Rattle.geometry.specs.declared.banks.Geometry.{Geometry}
 use Rattle.map.specs.declared.windows.Location.{Location}
 use Rattle.geometry.specs.Banks.{InRange}

@@ -7,7 +7,6 @@ ghost use Rattle.words.specs.Word.{pick};
 ghost use Rattle.words.specs.Quad.{putQuad};
 ghost use Rattle.geometry.specs.Banks.{InRange, bankWordsOf};
 ghost use Rattle.map.specs.Windows.{windowBytesOf, located};
-ghost use Rattle.device.specs.Record.{opOf};
 ghost use Rattle.flash.specs.Effect.{Runs, stepLocationOf, blockedOf, sourceFitsOf, sourceWordOf, oldQuadOf, effect, effectAtOf, effectOf};
 use device::record::Device;
 use device::registers::Nvmcon;

@@ -4,7 +4,7 @@ use mathlib.Core.Path.{_≡_, refl, sym, ap, _∙_}
 use mathlib.Core.Bool.{Bool, true, false, _&&_, _||_}
 use mathlib.Core.List.{List, [], _∷_}
 use Prim.Native.Nat.{ℕ, _+_, _*_, _/_, _≤_, _<_}
-use native.Mathlib.Nat.{mul-le-mul, mul-comm, suc-mul, le-refl, mul-div-cancel, div-div-eq-div-mul, lt-mul-div-succ, div-mul-le-self, div-lt-iff-lt-mul}
+use native.Mathlib.Nat.{mul-le-mul, mul-comm, suc-mul, le-refl, mul-div-cancel, div-div-eq-div-mul, lt-mul-div-succ}
 use native.Mathlib.Omega.{arith}
 use lib.Dec.{eqb, leb}
 use borrow.Author.Tests.{leb-true, eqb-true}

@@ -2,7 +2,7 @@
 -- a quad that was located lies in its bank.
 -- Assumes nothing.
 use mathlib.Core.Path.{_≡_, refl, sym, ap, _∙_}
-use mathlib.Core.Bool.{Bool, true, false, not, _&&_}
+use mathlib.Core.Bool.{Bool, true, false, _&&_}
 use Prim.Native.Nat.{ℕ, _+_, _-_, _*_, _/_, _≤_, _<_}
 use native.Mathlib.Nat.{mul-le-mul, div-lt-iff-lt-mul, mul-add-div-right, mul-assoc, div-mul-le-self, lt-of-le-of-lt, le-trans, le-refl, suc-mul, mul-div-cancel}
 use native.Mathlib.Omega.{arith}
@@ -13,7 +13,7 @@ use Rattle.words.proofs.PickLaws.{and-both}
 use Rattle.geometry.specs.declared.banks.Geometry.{Geometry}
 use Rattle.map.specs.declared.windows.Location.{Location}
 use Rattle.geometry.specs.Banks.{InRange, pageBytesOf, bootWordsOf, bootQuadsOf, bankWordsOf, roundDownOf}
-use Rattle.map.specs.Windows.{lowerBoot, upperBoot, lowerProgram, windowStartOf, windowBytesOf, located, nowhere, inWindowOf, orElse, locateOf, pageOf, wordIndexOf, quadIndexOf}
+use Rattle.map.specs.Windows.{upperBoot, lowerProgram, windowStartOf, windowBytesOf, located, nowhere, inWindowOf, orElse, locateOf, pageOf, wordIndexOf, quadIndexOf}
 use Rattle.geometry.proofs.SizeLaws.{Unit, page-pos, unit-in-page}
 
 -- an address and where it stands belong together

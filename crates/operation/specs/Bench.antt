@@ -1,4 +1,4 @@
--- The bench values of the paper (★) that this layer can state, with those of the layer below. Assumes nothing.
+-- The bench values of the paper (★) that this layer can state, with those of the sequence word. Assumes nothing.
 use Prim.Native.Nat.{ℕ, _<_}
 use mathlib.Core.Path.{_≡_}
 use mathlib.Core.Bool.{Bool, true, false}

@@ -1,6 +1,6 @@
 -- "Launch and flash steps": the target of an operation, whether its steps begin, and their number. Assumes nothing.
 use Prim.Native.Nat.{ℕ, _*_}
-use mathlib.Core.Bool.{Bool, true, false, not, _&&_}
+use mathlib.Core.Bool.{Bool, true, false, not}
 use lib.Dec.{eqb, ltb}
 use Rattle.words.specs.Word.{pick}
 use Rattle.geometry.specs.declared.banks.Geometry.{Geometry}

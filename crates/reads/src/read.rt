@@ -3,7 +3,7 @@ ghost use mathlib.Core.Path.{_≡_};
 ghost use mathlib.Core.Bool.{true};
 ghost use lib.ListN.{length};
 ghost use Rattle.geometry.specs.Banks.{InRange, bankWordsOf};
-ghost use Rattle.map.specs.Windows.{locateOf, windowBytesOf};
+ghost use Rattle.map.specs.Windows.{locateOf};
 ghost use Rattle.opening.specs.Possible.{possibleOf};
 ghost use Rattle.reads.specs.Read.{secondAtOf, freeOf, readableOf, flashReadDeclineOf, wordReadOf, flashReadOf};
 use device::record::Device;

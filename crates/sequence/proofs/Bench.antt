@@ -1,6 +1,6 @@
 -- The bench values hold: by computation, and where they speak of any word, by the laws.
 -- Assumes nothing.
-use mathlib.Core.Path.{_≡_, refl, ap, _∙_}
+use mathlib.Core.Path.{refl, ap, _∙_}
 use Prim.Native.Nat.{ℕ, _+_, _%_}
 use borrow.Author.Tests.{le-ltb}
 use native.Mathlib.Nat.{le-refl}

@@ -1,20 +1,20 @@
 -- The sequence word: the complement bit by bit and as a number, validity by bits, the new word is valid, the comparison's cases.
 -- Assumes nothing.
 use mathlib.Core.Path.{_≡_, refl, sym, ap, _∙_}
-use mathlib.Core.Bool.{Bool, true, false, not, _&&_}
+use mathlib.Core.Bool.{Bool, true, false, not}
 use Prim.Native.Nat.{ℕ, _+_, _-_, _*_, _/_, _%_, _^_, _≤_, _<_}
 use native.Mathlib.Nat.{mod-eq-of-lt, mul-le-mul}
 use native.Mathlib.Omega.{arith}
 use lib.Dec.{eqb, ltb}
 use lib.Arith.{digits-div, digits-mod, mul-pred}
-use lib.Bits.{bitAnd, bitXor, xor-lt, xor-add-and, and-mask}
+use lib.Bits.{xor-lt, xor-add-and, and-mask}
 use borrow.Author.Tests.{eq-eqb, eqb-true}
 use Rattle.words.specs.Word.{bit}
 use Rattle.words.specs.Quad.{wordAt}
 use Rattle.words.proofs.BitLaws.{xor, bit-xor, ones-bit, bit-low, bit-high, equal-below}
 use Rattle.geometry.specs.declared.banks.Geometry.{Geometry}
 use Rattle.geometry.specs.Banks.{InRange, bootQuadsOf, pageQuadsOf, bankWordsOf}
-use Rattle.sequence.specs.Sequence.{sequenceQuadOf, sequenceIndexOf, tseqOf, cseqOf, complementOf, validOf, bfswapOf, sequenceWordOf, nextSequenceOf}
+use Rattle.sequence.specs.Sequence.{sequenceQuadOf, tseqOf, cseqOf, complementOf, validOf, bfswapOf, sequenceWordOf, nextSequenceOf}
 
 -- ---- the complement of a half word
 pub complement-below : (h : ℕ) → h < 65536 → complementOf h < 65536

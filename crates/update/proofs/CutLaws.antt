@@ -5,18 +5,18 @@ use mathlib.Core.Path.{_≡_, refl, sym, ap, _∙_}
 use mathlib.Core.Bool.{Bool, true, false, not}
 use mathlib.Core.List.{List, [], _∷_}
 use mathlib.Core.Logic.{_⊎_, inl, inr}
-use Prim.Native.Nat.{ℕ, zero, suc, _+_, _-_, _*_, _^_, _≤_, _<_}
+use Prim.Native.Nat.{ℕ, zero, suc, _+_, _-_, _*_, _^_, _<_}
 use native.Mathlib.Nat.{eq-or-lt-of-le}
 use native.Mathlib.Decide.{ℕ-discrete}
 use native.Mathlib.Omega.{arith}
 use lib.Dec.{eqb, lit<}
-use lib.ListN.{length, take}
+use lib.ListN.{length}
 use borrow.Author.Tests.{eq-eqb}
 use Rattle.words.specs.Word.{pick, allOnes, mergeOf}
 use Rattle.words.specs.Quad.{wordAt, quadAt, putQuad, blankQuad, mergeQuadOf}
 use Rattle.words.proofs.QuadLaws.{put-length}
 use Rattle.geometry.specs.declared.banks.Geometry.{Geometry}
-use Rattle.geometry.specs.Banks.{InRange, pagesOf, pageQuadsOf, bankWordsOf}
+use Rattle.geometry.specs.Banks.{InRange, pageQuadsOf, bankWordsOf}
 use Rattle.words.specs.Decline.{acceptedOf}
 use Rattle.sequence.specs.Sequence.{sequenceQuadOf, sequenceIndexOf, nextSequenceOf}
 use Rattle.geometry.proofs.SizeLaws.{in-range}
@@ -34,7 +34,7 @@ use Rattle.update.proofs.WordLaws.{Loses, chosenOf, erased-clash, clash
 use Rattle.update.proofs.HeadLaws.{page-codes, quad-codes, clearedDevice, cleared-rest}
 use Rattle.update.proofs.StoringLaws.{prefix-rest}
 use Rattle.update.proofs.BankLaws.{quad-once, page-below, quad-below, sequence-last, sequence-blank, programmed-all, programmed-last, other-word, same-word, words-put}
-use Rattle.update.proofs.Phases.{placed, Fixed, Losing, oldWord, newWords, Finished, Phase, PageSteps, QuadStep}
+use Rattle.update.proofs.Phases.{placed, Fixed, Losing, newWords, Finished, Phase, PageSteps, QuadStep}
 use Rattle.update.proofs.Phases.Phase.{in-clearing, in-unprotecting, in-page-stores, in-page-steps, at-page-end, in-quad-stores, at-quad-step, at-quad-end, at-total}
 use Rattle.update.proofs.NextLaws.{new-long}
 use Rattle.update.proofs.StandsLaws.{phase-place}

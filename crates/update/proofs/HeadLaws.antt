@@ -2,7 +2,7 @@
 -- or a quad launch its operation.
 -- Assumes nothing.
 use mathlib.Core.Path.{_≡_, refl, sym, ap, _∙_}
-use mathlib.Core.Bool.{Bool, true, false, not, _&&_, _||_, or-false, and-false}
+use mathlib.Core.Bool.{Bool, true, false, not, _&&_, _||_, and-false}
 use mathlib.Core.List.{List, [], _∷_, _++_}
 use Prim.Native.Nat.{ℕ, zero, suc, _+_, _*_, _%_, _^_, _≤_, _<_}
 use native.Mathlib.Nat.{mul-lt-mul-of-pos-right, lt-of-le-of-lt, mod-lt}
@@ -14,23 +14,22 @@ use Rattle.words.specs.Word.{pick, bit, hasOf, mergeOf, clearOf}
 use Rattle.words.proofs.BitLaws.{has-bit, clear-bit, bit-or, merge-bit, equal-below, bit-low, ones-bit}
 use Rattle.words.proofs.MaskLaws.{Within, outside-bit, merge-within, or-within, clear-within, within-high}
 use Rattle.geometry.specs.declared.banks.Geometry.{Geometry}
-use Rattle.geometry.specs.Banks.{InRange, pagesOf, pageQuadsOf, programBytesOf}
+use Rattle.geometry.specs.Banks.{pagesOf, pageQuadsOf, programBytesOf}
 use Rattle.device.specs.declared.record.Device.{Device}
 use Rattle.device.specs.Registers.{WR, WREN, WRERR, LVDERR, PFSWAP, BFSWAP, NVMOP, UBWPULOCK}
-use Rattle.device.specs.Record.{withCon, running, bfswap, pfswap, opOf, isOpen}
+use Rattle.device.specs.Record.{withCon, bfswap, pfswap, isOpen}
 use Rattle.operation.specs.Protection.{pwpOf}
 use Rattle.operation.specs.Operation.{beginsAtOf}
 use Rattle.opening.proofs.PossibleLaws.{possible}
 use Rattle.access.specs.declared.store.Stored.{Stored}
-use Rattle.fields.specs.Launch.{launched}
 use Rattle.access.specs.Store.{hasFormOf, accepted, storeOf}
-use Rattle.start_up.specs.StartUp.{Access, access, storesOf, keyStores}
+use Rattle.start_up.specs.StartUp.{access, storesOf, keyStores}
 use Rattle.access.proofs.AcceptedLaws.{AtRest}
 use Rattle.start_up.proofs.StartUpLaws.{stores-append}
 use Rattle.machine.proofs.StoreEquations.{withAddress, withData, withBwp, launch-clears, launch-begins, address-store, data-store, clear-wren, set-wren, plain-op, launch-store, upper-store, keys-open, store-accepted, wr-off}
 use Rattle.machine.proofs.StoreLaws.{store-possible}
 use Rattle.machine.proofs.RestLaws.{NoLaunch, NoLaunches, no-launch-rests, stores-rest}
-use Rattle.update.specs.Actions.{launchStores, clearingStores, unprotectingStores, endStores, pageStores, quadStores, upperAddressOf, bankQuadsOf}
+use Rattle.update.specs.Actions.{launchStores, clearingStores, unprotectingStores, pageStores, quadStores, upperAddressOf, bankQuadsOf}
 use Rattle.update.proofs.TargetLaws.{UpperFree, address-word, page-begins, quad-begins}
 
 -- ---- NVMCON by its swap bits, both b, and NVMOP: at rest, with WREN, while steps run

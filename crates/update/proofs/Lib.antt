@@ -1,4 +1,3 @@
-pub mod TestLaws
 pub mod WordLaws
 pub mod TargetLaws
 pub mod HeadLaws

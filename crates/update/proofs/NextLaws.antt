@@ -1,42 +1,36 @@
 -- Each turn that performs its action goes from one phase to the next: a store goes on in its list, a step writes its quad.
 -- Assumes nothing.
-use mathlib.Core.Path.{_≡_, refl, sym, ap, _∙_}
+use mathlib.Core.Path.{_≡_, refl, _∙_}
 use mathlib.Core.Bool.{Bool, true, false, not}
 use mathlib.Core.List.{List, [], _∷_}
-use mathlib.Core.Logic.{_⊎_, inl, inr}
-use Prim.Native.Nat.{ℕ, zero, suc, _+_, _*_, _^_, _≤_, _<_}
-use native.Mathlib.Nat.{eq-or-lt-of-le}
-use native.Mathlib.Omega.{arith}
-use lib.Dec.{eqb, lit<}
-use lib.ListN.{length, getD, take}
+use Prim.Native.Nat.{ℕ, suc, _≤_}
+use lib.ListN.{length}
 use Rattle.words.specs.Word.{pick}
-use Rattle.words.specs.Quad.{wordAt, quadAt, putQuad, blankQuad}
+use Rattle.words.specs.Quad.{putQuad}
 use Rattle.geometry.specs.declared.banks.Geometry.{Geometry}
 use Rattle.words.specs.declared.decline.Decline.{Decline}
-use Rattle.geometry.specs.Banks.{inRangeOf, InRange, pagesOf, pageQuadsOf, bankWordsOf}
+use Rattle.geometry.specs.Banks.{inRangeOf, bankWordsOf}
 use Rattle.words.specs.Decline.{acceptedOf}
-use Rattle.geometry.proofs.SizeLaws.{in-range}
 use Rattle.device.specs.declared.record.Device.{Device}
 use Rattle.device.specs.Record.{running}
 use Rattle.opening.specs.Opening.{openingOf}
 use Rattle.opening.proofs.OpeningLaws.{opens}
-use Rattle.access.specs.Store.{hasFormOf, storeOf}
-use Rattle.start_up.specs.StartUp.{Access, access, storesOf}
+use Rattle.access.specs.Store.{storeOf}
+use Rattle.start_up.specs.StartUp.{Access}
 use Rattle.access.proofs.AcceptedLaws.{AtRest}
-use Rattle.flash.specs.declared.effect.Effect.{Effect}
 use Rattle.flash.specs.Effect.{effect, effectOf}
-use Rattle.flash.specs.Step.{After, after, stepDeclineOf, advanceOf, stepAcceptedOf, stepOf}
-use Rattle.machine.specs.Machine.{Operation, State, state, left, Sound}
+use Rattle.flash.specs.Step.{stepDeclineOf, advanceOf, stepAcceptedOf, stepOf}
+use Rattle.machine.specs.Machine.{Operation, left, Sound}
 use Rattle.machine.proofs.StoreEquations.{store-accepted}
 use Rattle.machine.proofs.StoreLaws.{store-possible}
 use Rattle.machine.proofs.MachineLaws.{store-answers, run-sound}
 use Rattle.update.specs.declared.actions.Action.{Action}
-use Rattle.update.specs.declared.actions.Action.the-variants.{Store, Step}
+use Rattle.update.specs.declared.actions.Action.the-variants.{Step}
 use Rattle.update.specs.Turn.{nextActionOf, actionDeclineOf, performOf}
 use Rattle.update.proofs.RestartLaws.{store-quad, step-quad}
 use Rattle.update.proofs.StoringLaws.{Fit}
 use Rattle.update.proofs.PlaceLaws.{storeOfAccess}
-use Rattle.update.proofs.Phases.{placed, Fixed, Phase}
+use Rattle.update.proofs.Phases.{placed, Phase}
 
 -- the new bank is as long as a bank
 pub new-long : (g : Geometry) (b : Bool) (d : Device) (old new : List ℕ) → Sound g (placed b d old new) → length new ≡ bankWordsOf g

@@ -2,37 +2,34 @@
 -- Assumes nothing.
 use mathlib.Core.Path.{_≡_, refl, sym, ap, _∙_}
 use mathlib.Core.Bool.{Bool, true, false, not}
-use mathlib.Core.List.{List, [], _∷_}
+use mathlib.Core.List.{List}
 use mathlib.Core.Logic.{_⊎_, inl, inr}
-use Prim.Native.Nat.{ℕ, zero, suc, _+_, _*_, _%_, _^_, _≤_, _<_}
-use native.Mathlib.Nat.{eq-or-lt-of-le, mul-lt-mul-of-pos-right, add-zero}
+use Prim.Native.Nat.{ℕ, zero, suc, _+_, _*_, _^_, _≤_, _<_}
+use native.Mathlib.Nat.{eq-or-lt-of-le, mul-lt-mul-of-pos-right}
 use native.Mathlib.Decide.{ℕ-discrete}
 use native.Mathlib.Omega.{arith}
 use lib.Arith.{digits-lt}
 use lib.Dec.{eqb, lit<}
 use lib.ListN.{length, getD, take}
 use borrow.Author.Tests.{eq-eqb, ne-eqb}
-use Rattle.words.specs.Word.{pick, hasOf, mergeOf, clearOf, allOnes}
-use Rattle.words.specs.Quad.{wordAt, quadAt, putQuad, blankQuad}
+use Rattle.words.specs.Word.{pick, allOnes}
+use Rattle.words.specs.Quad.{wordAt, putQuad, blankQuad}
 use Rattle.geometry.specs.declared.banks.Geometry.{Geometry}
 use Rattle.geometry.specs.Banks.{InRange, pagesOf, pageQuadsOf, bankWordsOf}
 use Rattle.sequence.specs.Sequence.{sequenceQuadOf, sequenceIndexOf}
 use Rattle.geometry.proofs.SizeLaws.{in-range}
 use Rattle.device.specs.declared.record.Device.{Device}
-use Rattle.device.specs.Registers.{WR, WREN, WRERR, PFSWAP, BFSWAP, NVMOP}
-use Rattle.device.specs.Record.{withCon, running, bfswap, pfswap, opOf}
 use Rattle.operation.specs.Operation.{lengthOf}
 use Rattle.opening.proofs.PossibleLaws.{idle-step}
-use Rattle.access.specs.Store.{hasFormOf, accepted, storeOf}
+use Rattle.access.specs.Store.{hasFormOf, storeOf}
 use Rattle.start_up.specs.StartUp.{Access, access, storesOf}
 use Rattle.access.proofs.AcceptedLaws.{AtRest}
 use Rattle.flash.specs.Effect.{effect, effectOf}
-use Rattle.flash.specs.Step.{advanced, advanceOf}
-use Rattle.flash.specs.declared.step.Advanced.{Advanced}
+use Rattle.flash.specs.Step.{advanceOf}
 use Rattle.machine.specs.Machine.{Sound}
 use Rattle.machine.proofs.StoreEquations.{withAddress, clear-wren}
 use Rattle.machine.proofs.RestLaws.{NoLaunches, no-launch-rests}
-use Rattle.update.specs.Actions.{pageStores, endStores, upperAddressOf, erasedPageOf, bankQuadsOf, pageActions, programmingFrom}
+use Rattle.update.specs.Actions.{pageStores, upperAddressOf, erasedPageOf, pageActions}
 use Rattle.update.specs.Start.{lowerWordOf}
 use Rattle.update.proofs.WordLaws.{Loses, erased-clash, clash-loses}
 use Rattle.update.proofs.TargetLaws.{address-word, erase-effect}
@@ -40,7 +37,7 @@ use Rattle.update.proofs.HeadLaws.{Between, restCon, enabledCon, runCon
 use Rattle.update.proofs.StoringLaws.{none, Forms, form-at, prefix-rest, storing, storedNext}
 use Rattle.update.proofs.PlaceLaws.{page-store, page-step, page-end}
 use Rattle.update.proofs.BankLaws.{erasedQuadOf, Erased, page-below, page-quad, erased-next, programmed-none, some-quads, words-put, other-word, same-word}
-use Rattle.update.proofs.Phases.{placed, Fixed, Losing, Page, pageDevice, PageStores, PageSteps, PageEnd, QuadStores, Phase}
+use Rattle.update.proofs.Phases.{placed, Fixed, Losing, Page, pageDevice, PageStores, PageSteps, PageEnd, Phase}
 use Rattle.update.proofs.Phases.Phase.{in-page-stores, in-page-steps, at-page-end, in-quad-stores}
 use Rattle.update.proofs.NextLaws.{new-long, Goes, goes-store, goes-step}
 

@@ -1,24 +1,22 @@
 -- The action of each place, block by block: a place of a block divides into the block's number and the place in it.
 -- Assumes nothing.
-use mathlib.Core.Path.{_≡_, refl, sym, ap, _∙_}
-use mathlib.Core.Bool.{Bool, true, false}
+use mathlib.Core.Path.{_≡_, sym, ap, _∙_}
 use mathlib.Core.List.{List, [], _∷_, _++_}
-use Prim.Native.Nat.{ℕ, zero, suc, _+_, _-_, _*_, _/_, _%_, _≤_, _<_}
+use Prim.Native.Nat.{ℕ, zero, suc, _+_, _-_, _*_, _/_, _≤_, _<_}
 use native.Mathlib.Nat.{not-suc-le-zero, div-lt-iff-lt-mul}
 use native.Mathlib.Omega.{arith}
 use lib.Arith.{digits-lt, digits-div, digits-mod}
 use lib.Dec.{ltb}
-use lib.ListN.{length, getD, List·getD-append}
+use lib.ListN.{getD, List·getD-append}
 use lib.Seq.{getD-append-add}
 use borrow.Author.Tests.{lt-ltb, le-ltb}
-use Rattle.words.specs.Word.{pick}
 use Rattle.words.specs.Quad.{wordAt}
 use Rattle.geometry.specs.declared.banks.Geometry.{Geometry}
 use Rattle.geometry.specs.Banks.{pagesOf, pageQuadsOf}
 use Rattle.start_up.specs.StartUp.{Access, access}
 use Rattle.update.specs.declared.actions.Action.{Action}
 use Rattle.update.specs.declared.actions.Action.the-variants.{Store, Step}
-use Rattle.update.specs.Actions.{stored, prologue, launchStores, upperAddressOf, clearingStores, unprotectingStores, endStores, pageStores, quadStores, quadBlock, erasedPageOf, programmedQuadOf, newQuadOf, bankQuadsOf, totalOf, pageActions, programmingFrom, pageActionOf, quadActionOf, actionAtOf}
+use Rattle.update.specs.Actions.{stored, launchStores, upperAddressOf, clearingStores, unprotectingStores, endStores, pageStores, quadStores, quadBlock, erasedPageOf, programmedQuadOf, newQuadOf, bankQuadsOf, totalOf, pageActions, programmingFrom, pageActionOf, quadActionOf, actionAtOf}
 use Rattle.update.proofs.StoringLaws.{none, stored-at}
 
 -- a store as an action

@@ -5,7 +5,7 @@ use mathlib.Core.Path.{_≡_, refl, sym, ap, _∙_}
 use mathlib.Core.Bool.{Bool, true, false, not}
 use mathlib.Core.List.{List, [], _∷_}
 use mathlib.Core.Logic.{_⊎_, inl, inr}
-use Prim.Native.Nat.{ℕ, zero, suc, _+_, _≤_, _<_}
+use Prim.Native.Nat.{ℕ, _≤_}
 use native.Mathlib.Omega.{arith}
 use lib.Dec.{eqb, ltb}
 use lib.ListN.{length}
@@ -14,28 +14,26 @@ use Rattle.words.specs.Word.{pick}
 use Rattle.words.specs.Quad.{wordAt, putQuad}
 use Rattle.words.proofs.PickLaws.{pick-both}
 use Rattle.words.proofs.BitLaws.{true-not-false}
-use Rattle.words.proofs.QuadLaws.{put-length}
 use Rattle.geometry.specs.declared.banks.Geometry.{Geometry}
 use Rattle.words.specs.declared.decline.Decline.{Decline}
-use Rattle.geometry.specs.Banks.{inRangeOf, InRange, bankWordsOf}
+use Rattle.geometry.specs.Banks.{inRangeOf, InRange}
 use Rattle.words.specs.Decline.{acceptedOf}
 use Rattle.sequence.specs.Sequence.{sequenceQuadOf, sequenceIndexOf, nextSequenceOf}
 use Rattle.geometry.proofs.SizeLaws.{in-range}
 use Rattle.device.specs.declared.record.Device.{Device}
 use Rattle.device.specs.Record.{running, bfswap, pfswap}
 use Rattle.opening.specs.Possible.{possibleOf}
-use Rattle.opening.specs.Opening.{openingOf}
 use Rattle.opening.proofs.OpeningLaws.{opens}
 use Rattle.start_up.specs.StartUp.{startUpOf}
 use Rattle.flash.specs.Step.{After}
 use Rattle.resets.specs.Reset.{resetDeclineOf, resetDeviceOf, resetOf}
 use Rattle.machine.specs.Protection.{protectedWordOf}
-use Rattle.machine.specs.Machine.{Operation, State, state, left, bankOf, transitionOf, answerOf, Sound}
+use Rattle.machine.specs.Machine.{Operation, State, state, left, bankOf, Sound}
 use Rattle.machine.proofs.Machine.{controller}
 use Rattle.update.specs.declared.actions.Action.{Action}
 use Rattle.update.specs.declared.actions.Action.the-variants.{Store, Step}
 use Rattle.update.specs.Actions.{totalOf}
-use Rattle.update.specs.Start.{lowerWordOf, startOf}
+use Rattle.update.specs.Start.{startOf}
 use Rattle.update.specs.Turn.{nextActionOf, turnDeclineOf, performOf, performed, turning, turnOf}
 use Rattle.update.specs.PowerFail.{Position, at, turnedOf, turnsOf, afterTurns, placeAfter, NoneDeclined, ShortSrams, Cut, resetBy, startedUp, restarted, Restarts, Runs, old, newBankOf, Words, Update, PowerFail}
 use Rattle.update.proofs.WordLaws.{chosenOf, next-wins}

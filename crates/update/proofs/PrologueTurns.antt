@@ -1,29 +1,28 @@
 -- The turns of the prologue: its stores go on in their list, and the last leads to the first page.
 -- Assumes nothing.
-use mathlib.Core.Path.{_≡_, refl, sym, ap, _∙_}
-use mathlib.Core.Bool.{Bool, true, false}
-use mathlib.Core.List.{List, [], _∷_}
+use mathlib.Core.Path.{_≡_, refl, ap, _∙_}
+use mathlib.Core.Bool.{Bool}
+use mathlib.Core.List.{List}
 use mathlib.Core.Logic.{_⊎_, inl, inr}
-use Prim.Native.Nat.{ℕ, zero, suc, _+_, _*_, _≤_, _<_}
-use native.Mathlib.Nat.{eq-or-lt-of-le, not-suc-le-zero, zero-mul}
+use Prim.Native.Nat.{ℕ, suc, _<_}
+use native.Mathlib.Nat.{eq-or-lt-of-le}
 use native.Mathlib.Omega.{arith}
 use lib.Dec.{lit<}
-use lib.ListN.{length, getD, take}
+use lib.ListN.{getD, take}
 use Rattle.geometry.specs.declared.banks.Geometry.{Geometry}
-use Rattle.geometry.specs.Banks.{InRange, pagesOf, pageQuadsOf}
+use Rattle.geometry.specs.Banks.{InRange}
 use Rattle.geometry.proofs.SizeLaws.{in-range}
 use Rattle.device.specs.declared.record.Device.{Device}
 use Rattle.access.specs.Store.{hasFormOf}
-use Rattle.start_up.specs.StartUp.{Access, access, storesOf}
-use Rattle.access.proofs.AcceptedLaws.{AtRest}
+use Rattle.start_up.specs.StartUp.{storesOf}
 use Rattle.machine.specs.Machine.{Sound}
 use Rattle.machine.proofs.RestLaws.{NoLaunches}
-use Rattle.update.specs.Actions.{clearingStores, unprotectingStores, pageActions}
+use Rattle.update.specs.Actions.{clearingStores, unprotectingStores}
 use Rattle.update.specs.Start.{lowerWordOf}
 use Rattle.update.proofs.HeadLaws.{clearedDevice, readyDevice, quiet-op, quiet-set, quiet-clear, quiet-keys, clearing-head, cleared-rest, unprotecting-head, ready-between}
 use Rattle.update.proofs.StoringLaws.{none, Forms, form-at, prefix-rest, storing, storedNext}
 use Rattle.update.proofs.PlaceLaws.{clearing-action, unprotecting-action}
-use Rattle.update.proofs.Phases.{placed, Fixed, Clearing, Unprotecting, PageStores, Phase}
+use Rattle.update.proofs.Phases.{placed, Fixed, Clearing, Unprotecting, Phase}
 use Rattle.update.proofs.Phases.Phase.{in-clearing, in-unprotecting, in-page-stores}
 use Rattle.update.proofs.NextLaws.{Goes, goes-store}
 

@@ -4,24 +4,23 @@ use mathlib.Core.Path.{_≡_, refl, sym, ap, _∙_}
 use mathlib.Core.Bool.{Bool, true, false, not}
 use mathlib.Core.List.{List, [], _∷_}
 use mathlib.Core.Logic.{_⊎_, inl, inr}
-use Prim.Native.Nat.{ℕ, zero, suc, _+_, _*_, _%_, _^_, _≤_, _<_}
+use Prim.Native.Nat.{ℕ, zero, suc, _+_, _*_, _^_, _≤_, _<_}
 use native.Mathlib.Nat.{eq-or-lt-of-le}
 use native.Mathlib.Omega.{arith}
 use lib.Dec.{eqb, lit<}
 use lib.ListN.{length, getD, take}
-use Rattle.words.specs.Word.{pick, hasOf, mergeOf, clearOf, allOnes}
-use Rattle.words.specs.Quad.{wordAt, quadAt, putQuad, blankQuad}
+use Rattle.words.specs.Word.{pick}
+use Rattle.words.specs.Quad.{wordAt, quadAt, blankQuad}
 use Rattle.words.proofs.PickLaws.{pick-both}
 use Rattle.geometry.specs.declared.banks.Geometry.{Geometry}
-use Rattle.geometry.specs.Banks.{InRange, bankWordsOf}
+use Rattle.geometry.specs.Banks.{InRange}
 use Rattle.sequence.specs.Sequence.{sequenceQuadOf, sequenceIndexOf, nextSequenceOf}
 use Rattle.geometry.proofs.SizeLaws.{in-range}
 use Rattle.device.specs.declared.record.Device.{Device}
-use Rattle.device.specs.Registers.{WR, WREN, WRERR, PFSWAP, BFSWAP, NVMOP}
-use Rattle.device.specs.Record.{withCon, running, bfswap, pfswap, opOf}
+use Rattle.device.specs.Record.{withCon, bfswap}
 use Rattle.operation.specs.Operation.{lengthOf}
 use Rattle.opening.proofs.PossibleLaws.{idle-step}
-use Rattle.access.specs.Store.{hasFormOf, accepted, storeOf}
+use Rattle.access.specs.Store.{hasFormOf, storeOf}
 use Rattle.start_up.specs.StartUp.{Access, access, storesOf}
 use Rattle.access.proofs.AcceptedLaws.{AtRest}
 use Rattle.flash.specs.Effect.{effect, effectOf}
@@ -29,16 +28,16 @@ use Rattle.flash.specs.Step.{advanceOf}
 use Rattle.machine.specs.Machine.{Sound}
 use Rattle.machine.proofs.StoreEquations.{withAddress, withData, clear-wren}
 use Rattle.machine.proofs.RestLaws.{NoLaunches, no-launch-rests}
-use Rattle.update.specs.Actions.{quadStores, upperAddressOf, programmedQuadOf, newQuadOf, bankQuadsOf, programmingFrom, totalOf, actionAtOf}
+use Rattle.update.specs.Actions.{quadStores, upperAddressOf, programmedQuadOf, newQuadOf, bankQuadsOf}
 use Rattle.update.specs.Start.{lowerWordOf}
 use Rattle.update.specs.PowerFail.{Words}
 use Rattle.update.proofs.WordLaws.{next-word}
 use Rattle.update.proofs.TargetLaws.{address-word, program-effect}
-use Rattle.update.proofs.HeadLaws.{Between, restCon, enabledCon, runCon, quad-codes, ended-between, quiet-op, quiet-plain, quiet-set, quiet-clear, quiet-keys, quad-head}
+use Rattle.update.proofs.HeadLaws.{Between, restCon, runCon, quad-codes, ended-between, quiet-op, quiet-plain, quiet-set, quiet-clear, quiet-keys, quad-head}
 use Rattle.update.proofs.StoringLaws.{none, Forms, form-at, prefix-rest, quiet-prefix, Shut, shut-prefix, swap-kept, storing, storedNext}
-use Rattle.update.proofs.PlaceLaws.{storeOfAccess, total-place, quad-store, quad-step, quad-end}
+use Rattle.update.proofs.PlaceLaws.{total-place, quad-store, quad-step, quad-end}
 use Rattle.update.proofs.BankLaws.{quad-below, programmed-next, words-put}
-use Rattle.update.proofs.Phases.{placed, Fixed, oldWord, newWords, Quad, quadDevice, QuadStores, QuadStep, QuadEnd, Finished, Phase}
+use Rattle.update.proofs.Phases.{placed, Fixed, newWords, Quad, quadDevice, QuadStores, QuadStep, QuadEnd, Phase}
 use Rattle.update.proofs.Phases.Phase.{in-quad-stores, at-quad-step, at-quad-end, at-total}
 use Rattle.update.proofs.NextLaws.{new-long, Goes, goes-store, goes-step}
 

@@ -3,10 +3,10 @@
 use mathlib.Core.Path.{_≡_, refl, sym, ap, _∙_}
 use mathlib.Core.Bool.{Bool, true, false, not, _&&_, _||_}
 use mathlib.Core.List.{List, [], _∷_}
-use Prim.Native.Nat.{ℕ, zero, suc, _*_, _≤_, _<_}
+use Prim.Native.Nat.{ℕ, _<_}
 use native.Mathlib.Nat.{mul-le-mul}
 use native.Mathlib.Omega.{arith}
-use lib.Dec.{eqb, ltb}
+use lib.Dec.{ltb}
 use lib.ListN.{length}
 use borrow.Author.Tests.{ltb-true, lt-ltb, not-true}
 use Rattle.words.specs.Word.{pick, hasOf}
@@ -30,9 +30,9 @@ use Rattle.resets.specs.Reset.{comparedOf}
 use Rattle.machine.specs.Machine.{State, state, bankOf, Sound}
 use Rattle.update.specs.Start.{lowerWordOf, otherWordOf, clashOf, lowerValidOf, resetKeepsOf, swapsAgreeOf, otherSafeOf, sequenceAllowsOf, nextExistsOf, upperFreeOf, startDeclineOf, startOf}
 use Rattle.update.specs.PowerFail.{Words, at, Update}
-use Rattle.update.proofs.WordLaws.{chosenOf, Loses}
+use Rattle.update.proofs.WordLaws.{chosenOf}
 use Rattle.update.proofs.RestartLaws.{Started}
-use Rattle.update.proofs.Phases.{placed, Fixed, Losing, Begins, Phase, Stands}
+use Rattle.update.proofs.Phases.{placed, Fixed, Losing, Stands}
 use Rattle.update.proofs.Phases.Phase.{in-clearing}
 
 -- two truth values that are the same

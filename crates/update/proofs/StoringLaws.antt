@@ -1,21 +1,20 @@
 -- Stores of a list, one a turn: each is carried out on the device that those before it left, which is at rest while none of them launches.
 -- Assumes nothing.
 use mathlib.Core.Path.{_≡_, refl, sym, ap, _∙_}
-use mathlib.Core.Bool.{Bool, true, false, not, _&&_}
-use mathlib.Core.List.{List, [], _∷_, _++_}
+use mathlib.Core.Bool.{Bool, true, false, not}
+use mathlib.Core.List.{List, [], _∷_}
 use Prim.Native.Nat.{ℕ, zero, suc, _+_, _^_, _≤_, _<_}
 use native.Mathlib.Nat.{le-of-suc-le-suc, not-suc-le-zero}
-use native.Mathlib.Omega.{arith}
 use lib.Dec.{eqb}
 use lib.ListN.{length, getD, take}
 use lib.Seq.{take-suc}
 use borrow.Author.Tests.{not-true}
-use Rattle.words.specs.Word.{pick, bit, hasOf, mergeOf}
+use Rattle.words.specs.Word.{pick, bit, hasOf}
 use Rattle.words.proofs.PickLaws.{pick-both}
 use Rattle.words.proofs.BitLaws.{has-bit}
 use Rattle.geometry.specs.declared.banks.Geometry.{Geometry}
 use Rattle.device.specs.declared.record.Device.{Device}
-use Rattle.device.specs.Registers.{WREN, NVMOP, BFSWAP, SWAPLOCK}
+use Rattle.device.specs.Registers.{WREN, NVMOP, SWAPLOCK}
 use Rattle.device.specs.Record.{registerOf, withCon, bfswap, isOpen}
 use Rattle.access.specs.declared.store.Stored.{Stored}
 use Rattle.fields.specs.Fields.{wantedOf, conTakesOf}
@@ -26,7 +25,6 @@ use Rattle.start_up.proofs.StartUpLaws.{stores-append}
 use Rattle.machine.proofs.StoreEquations.{store-runs}
 use Rattle.machine.proofs.ChangeLaws.{con-keeps}
 use Rattle.machine.proofs.RestLaws.{NoLaunch, NoLaunches, no-launch-rests, stores-rest}
-use Rattle.update.specs.declared.actions.Action.{Action}
 use Rattle.update.specs.declared.actions.Action.the-variants.{Store, Step}
 use Rattle.update.specs.Actions.{stored}
 

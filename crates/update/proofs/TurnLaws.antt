@@ -1,7 +1,7 @@
 -- A turn leaves its position, or it performs the action of its place and goes to the next; with a short SRAM and an action that is not
 -- declined it does.
 -- Assumes nothing.
-use mathlib.Core.Path.{_≡_, refl, sym, ap, _∙_}
+use mathlib.Core.Path.{_≡_, refl, ap}
 use mathlib.Core.Bool.{Bool, true, false}
 use mathlib.Core.List.{List, [], _∷_}
 use mathlib.Core.Logic.{_⊎_, inl, inr}
@@ -21,7 +21,7 @@ use Rattle.opening.proofs.OpeningLaws.{ready, opens}
 use Rattle.machine.specs.Machine.{State, left, Sound}
 use Rattle.update.specs.Actions.{totalOf}
 use Rattle.update.specs.Turn.{nextActionOf, actionDeclineOf, turnDeclineOf, turning, performOf, performed, Turning, turnOf}
-use Rattle.update.specs.PowerFail.{Position, at, turnedOf}
+use Rattle.update.specs.PowerFail.{at, turnedOf}
 
 module _ (g : Geometry) (s : State) (image sram : List ℕ) (place : ℕ) where
   pub turn-declined : acceptedOf (turnDeclineOf g s image (length sram) place) ≡ false → turnedOf g image (at s place) sram ≡ at s place

@@ -12,7 +12,6 @@ use Rattle.words.specs.Decline.{acceptedOf, firstOf}
 use Rattle.device.specs.declared.record.Device.{Device}
 use Rattle.device.specs.Record.{running}
 use Rattle.opening.specs.Opening.{openingOf}
-use Rattle.access.specs.declared.store.Stored.{Stored}
 use Rattle.access.specs.Store.{hasFormOf, storeOf}
 use Rattle.flash.specs.Step.{After, after, stepOf}
 use Rattle.machine.specs.Machine.{State, left}

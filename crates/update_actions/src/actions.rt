@@ -1,11 +1,11 @@
 // The actions of an update, by place.
-// What asks for InRange, or for a place of its list, is no call of the updater: turn judges its declines first.
+// What asks for InRange, or for a place of its list, is no call of the updater: its callers judge their declines first.
 ghost use mathlib.Core.Path.{_≡_};
 ghost use Prim.Native.Nat.{_+_, _<_};
 ghost use lib.ListN.{length, getD};
-ghost use Rattle.geometry.specs.Banks.{InRange, pagesOf, pageQuadsOf, bankWordsOf};
+ghost use Rattle.geometry.specs.Banks.{InRange, pagesOf, bankWordsOf};
 ghost use Rattle.update.specs.declared.actions.Action.the-variants.{Step};
-ghost use Rattle.update.specs.Actions.{prologue, stored, launchStores, erasedPageOf, totalOf, pageActions, programmingFrom, pageActionOf, actionAtOf};
+ghost use Rattle.update.specs.Actions.{prologue, stored, launchStores, erasedPageOf, totalOf, pageActionOf, actionAtOf};
 use crate::programming::quad_action;
 use crate::programming::upper_address;
 use geometry::banks::Geometry;

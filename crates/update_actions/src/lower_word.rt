@@ -1,4 +1,4 @@
-// The word that t, and with it the new sequence quad, is read from at each turn.
+// The word that t is read from, at the start and at each turn.
 ghost use mathlib.Core.Path.{_≡_};
 ghost use lib.ListN.{length};
 ghost use Rattle.geometry.specs.Banks.{InRange, bankWordsOf};

@@ -1,5 +1,5 @@
 // The quads of an update: where each stands, what it holds, and its actions.
-// What asks for InRange, or for a quad of the bank, is no call of the updater: turn judges its declines first.
+// What asks for InRange, or for a quad of the bank, is no call of the updater: its callers judge their declines first.
 ghost use mathlib.Core.Path.{_≡_};
 ghost use Prim.Native.Nat.{_<_};
 ghost use lib.ListN.{length};

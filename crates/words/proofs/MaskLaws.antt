@@ -1,16 +1,16 @@
 -- Words within a mask, and merges whose mask takes all or none of the bits that change. Each holds bit by bit.
 -- Assumes nothing.
 use mathlib.Core.Path.{_≡_, refl, sym, ap, _∙_}
-use mathlib.Core.Bool.{Bool, true, false, not, _&&_, _||_, or-true, or-false, and-true, and-false}
+use mathlib.Core.Bool.{Bool, true, false, not, _&&_, _||_, or-false, and-true, and-false}
 use Prim.Native.Nat.{ℕ, _-_, _^_, _≤_, _<_}
 use native.Mathlib.Nat.{mod-eq-of-lt, mod-lt}
 use native.Mathlib.Omega.{arith}
 use lib.Dec.{eqb}
-use lib.Bits.{bitAnd, bitOr, bitXor, and-mask, and-le-r}
+use lib.Bits.{bitAnd, bitOr, and-mask, and-le-r}
 use lib.Pow.{pow-pos}
 use borrow.Author.Tests.{eq-eqb, eqb-true, not-false}
 use Rattle.words.specs.Word.{pick, bit, hasOf, mergeOf, clearOf}
-use Rattle.words.proofs.BitLaws.{true-not-false, bit-and, bit-or, bit-xor, merge-bit, clear-bit, equal-by-bits, bit-zero, has-bit, xor}
+use Rattle.words.proofs.BitLaws.{true-not-false, bit-and, bit-or, merge-bit, clear-bit, equal-by-bits, bit-zero}
 
 -- w has no bit outside the mask
 pub record Within (mask w : ℕ) : Type 0 where

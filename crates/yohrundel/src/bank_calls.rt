@@ -4,7 +4,7 @@ ghost use lib.ListN.{length, take, drop};
 ghost use Rattle.flash.specs.Step.{stepOf};
 ghost use Rattle.resets.specs.Reset.{resetOf};
 ghost use Rattle.reads.specs.Read.{flashReadOf};
-ghost use Rattle.parts.specs.Parts.{lowerBankOf, pagePartOf};
+ghost use Rattle.parts.specs.Parts.{pagePartOf};
 ghost use Rattle.yohrundel.specs.Answers.{flashReadAnswerOf, lowerBankAnswerOf, pageAnswerOf, StepGives, ResetGives};
 use crate::answers::DeviceAnswer;
 use crate::answers::EventAnswer;

@@ -1,7 +1,6 @@
 -- The middle lies within the list.
 use borrow.Author.Needs.{needs}
 use mathlib.Core.Path.{sym}
-use native.Mathlib.Omega.{arith}
 use lib.Seq.{length-take-le}
 use Rattle.conformance_answers.proofs.update_calls.turn_with.Statement.{statement}
 use Rattle.conformance_answers.proofs.update_calls.turn_with.Tie as tie

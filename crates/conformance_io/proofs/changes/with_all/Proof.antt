@@ -2,7 +2,6 @@
 use Prim.Native.Nat.{_+_, _≤_, _-_}
 use mathlib.Core.Path.{_≡_}
 use native.Mathlib.Omega.{arith}
-use borrow.Author.Needs.{needs}
 use Rattle.conformance_io.proofs.changes.with_all.Statement.{statement}
 use Rattle.conformance_io.proofs.changes.with_all.Tie as tie
 

@@ -1,7 +1,6 @@
 -- A sign's words are no more than each list has, so that the first of them are as many.
 use borrow.Author.Needs.{needs}
 use mathlib.Core.Path.{sym}
-use native.Mathlib.Omega.{arith}
 use lib.Seq.{length-take-le}
 use Rattle.cuts.proofs.cuts.cut_sign.Statement.{statement}
 use Rattle.cuts.proofs.cuts.cut_sign.Tie as tie

@@ -1,7 +1,5 @@
 -- The invariant: no register is past the last. The measure is the registers that are left.
 use Prim.Native.Nat.{_≤_, _-_}
-use mathlib.Core.Path.{_≡_}
-use native.Mathlib.Omega.{arith}
 use borrow.Author.Needs.{needs}
 use Rattle.cuts.proofs.sums.with_device.Statement.{statement}
 use Rattle.cuts.proofs.sums.with_device.Tie as tie

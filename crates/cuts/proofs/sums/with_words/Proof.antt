@@ -1,7 +1,5 @@
 -- The invariant: the index lies within the list. The measure is the words that are left.
 use Prim.Native.Nat.{_≤_, _-_}
-use mathlib.Core.Path.{_≡_}
-use native.Mathlib.Omega.{arith}
 use borrow.Author.Needs.{needs}
 use lib.ListN.{length}
 use Rattle.cuts.proofs.sums.with_words.Statement.{statement}

@@ -1,8 +1,8 @@
 -- Declined, or carried out.
 use borrow.Author.Needs.{needs}
-use borrow.Author.Tests.{not-true, not-false}
+use borrow.Author.Tests.{not-true}
 use mathlib.Core.Path.{sym, _∙_}
-use Rattle.words.proofs.DeclineLaws.{stopped, went-on}
+use Rattle.words.proofs.DeclineLaws.{went-on}
 use Rattle.flash.specs.Step.{stepOf}
 use Rattle.flash.proofs.AcceptedLaws.{step-ready}
 use Rattle.flash.proofs.step.step.Statement.{statement}

@@ -1,8 +1,6 @@
 -- Each way through the tests is a case of the definition.
 use borrow.Author.Tests.{not-true, not-false}
 use borrow.Author.Needs.{needs}
-use mathlib.Core.Path.{ap}
-use Rattle.map.specs.declared.windows.Location.{Location}
 use Rattle.operation.specs.Protection.{protectedOf}
 use Rattle.operation.specs.Operation.{targetBeginsOf}
 use Rattle.operation.proofs.OperationLaws.{target-page}

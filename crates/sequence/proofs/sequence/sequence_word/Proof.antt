@@ -1,8 +1,6 @@
 -- The complement of a half word is a half word, so the sum fits.
-use Prim.Native.Nat.{ℕ, _<_}
 use native.Mathlib.Omega.{arith}
-use lib.Bits.{xor-lt}
-use Rattle.sequence.specs.Sequence.{complementOf, sequenceWordOf}
+use Rattle.sequence.specs.Sequence.{sequenceWordOf}
 use Rattle.sequence.proofs.SequenceLaws.{complement-below}
 use Rattle.sequence.proofs.sequence.sequence_word.Statement.{statement}
 use Rattle.sequence.proofs.sequence.sequence_word.Tie as tie

@@ -1,11 +1,11 @@
 -- A place of the prologue, of a page or of a quad, by division.
-use mathlib.Core.Path.{_≡_, ap}
-use Prim.Native.Nat.{ℕ, _+_, _-_, _*_, _/_, _%_, _≤_, _<_}
+use mathlib.Core.Path.{_≡_}
+use Prim.Native.Nat.{_+_, _-_, _*_, _/_, _≤_, _<_}
 use native.Mathlib.Nat.{mod-lt}
 use borrow.Author.Tests.{lt-ltb, le-ltb}
 use borrow.Author.Needs.{needs}
 use native.Mathlib.Omega.{arith}
-use Rattle.geometry.specs.Banks.{pagesOf, pageQuadsOf}
+use Rattle.geometry.specs.Banks.{pagesOf}
 use Rattle.update.specs.Actions.{actionAtOf, programmingFrom, pageActions}
 use Rattle.update.proofs.BankLaws.{page-below}
 use Rattle.update.proofs.PlaceLaws.{page-at, rest-below}

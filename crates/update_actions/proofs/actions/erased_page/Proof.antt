@@ -1,5 +1,4 @@
 -- Each way through the tests is a case of the definition.
-use borrow.Author.Needs.{needs}
 use native.Mathlib.Omega.{arith}
 use borrow.Author.Tests.{eq-eqb, ne-eqb, lt-ltb, le-ltb}
 use Rattle.update.specs.Actions.{erasedPageOf}

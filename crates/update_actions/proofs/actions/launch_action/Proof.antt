@@ -1,6 +1,5 @@
 -- Each arm is an entry of the list.
 use mathlib.Core.Path.{_≡_}
-use borrow.Author.Needs.{needs}
 use native.Mathlib.Omega.{arith}
 use Rattle.update_actions.proofs.actions.launch_action.Statement.{statement}
 use Rattle.update_actions.proofs.actions.launch_action.Tie as tie

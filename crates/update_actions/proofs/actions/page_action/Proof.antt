@@ -1,12 +1,12 @@
 -- The address, the launch, the steps, the end.
-use mathlib.Core.Path.{_≡_, ap, _∙_}
+use mathlib.Core.Path.{ap}
 use Prim.Native.Nat.{ℕ, _*_, _<_}
 use native.Mathlib.Nat.{mul-lt-mul-of-pos-right}
 use borrow.Author.Tests.{lt-ltb, le-ltb}
 use borrow.Author.Needs.{needs}
 use native.Mathlib.Omega.{arith}
-use Rattle.geometry.specs.Banks.{pagesOf, pageQuadsOf}
-use Rattle.update.specs.Actions.{stored, pageStores, pageActionOf, bankQuadsOf}
+use Rattle.geometry.specs.Banks.{pageQuadsOf}
+use Rattle.update.specs.Actions.{pageActionOf, bankQuadsOf}
 use Rattle.update.proofs.PlaceLaws.{launch-of-page}
 use Rattle.update_actions.proofs.actions.page_action.Statement.{statement}
 use Rattle.update_actions.proofs.actions.page_action.Tie as tie

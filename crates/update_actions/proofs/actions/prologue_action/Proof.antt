@@ -1,7 +1,4 @@
 -- Each arm is an entry of the list.
-use mathlib.Core.Path.{_≡_}
-use borrow.Author.Needs.{needs}
-use native.Mathlib.Omega.{arith}
 use Rattle.update.proofs.PlaceLaws.{some, later, only}
 use Rattle.update_actions.proofs.actions.prologue_action.Statement.{statement}
 use Rattle.update_actions.proofs.actions.prologue_action.Tie as tie

@@ -1,6 +1,5 @@
 -- The sequence quad, or the image's.
 use borrow.Author.Needs.{needs}
-use native.Mathlib.Omega.{arith}
 use borrow.Author.Tests.{eq-eqb, ne-eqb}
 use Rattle.update.specs.Actions.{newQuadOf}
 use Rattle.update.proofs.BankLaws.{quad-room}

@@ -1,7 +1,6 @@
 -- Each arm is an entry of the block.
-use mathlib.Core.Path.{_≡_, _∙_}
+use mathlib.Core.Path.{_∙_}
 use borrow.Author.Needs.{needs}
-use native.Mathlib.Omega.{arith}
 use Rattle.update.specs.Actions.{programmedQuadOf, newQuadOf, quadActionOf}
 use Rattle.update.proofs.BankLaws.{quad-below}
 use Rattle.update.proofs.PlaceLaws.{some, later, earlier, five-less, launch-of-quad}

@@ -1,6 +1,5 @@
 -- The halves, bit by bit.
 use borrow.Author.Needs.{needs}
-use native.Mathlib.Omega.{arith}
 use Rattle.update.specs.Start.{clashOf}
 use Rattle.update_start.proofs.start.clashes.Statement.{statement}
 use Rattle.update_start.proofs.start.clashes.Tie as tie

@@ -2,7 +2,6 @@
 use mathlib.Core.Path.{sym, _∙_}
 use borrow.Author.Tests.{not-true, not-false}
 use borrow.Author.Needs.{needs}
-use native.Mathlib.Omega.{arith}
 use Rattle.update.specs.Start.{upperFreeOf}
 use Rattle.update_start.proofs.start.is_upper_free.Statement.{statement}
 use Rattle.update_start.proofs.start.is_upper_free.Tie as tie

@@ -1,10 +1,9 @@
 -- The first clause that fails decides.
-use mathlib.Core.Path.{_≡_, sym, ap, _∙_}
+use mathlib.Core.Path.{sym, _∙_}
 use borrow.Author.Tests.{not-true, not-false}
 use borrow.Author.Needs.{needs}
-use native.Mathlib.Omega.{arith}
 use Rattle.update.specs.Start.{sequenceAllowsOf}
-use Rattle.update.proofs.TestLaws.{differ, agree}
+use Rattle.update_start.proofs.TestLaws.{differ, agree}
 use Rattle.update_start.proofs.start.sequence_allows.Statement.{statement}
 use Rattle.update_start.proofs.start.sequence_allows.Tie as tie
 

@@ -1,12 +1,9 @@
 -- Declined, or started.
-use mathlib.Core.Path.{_≡_, refl, sym, _∙_}
+use mathlib.Core.Path.{sym, _∙_}
 use borrow.Author.Tests.{not-true, not-false}
 use borrow.Author.Needs.{needs}
-use native.Mathlib.Omega.{arith}
-use Rattle.words.proofs.DeclineLaws.{neither, went-on, stopped}
-use Rattle.opening.proofs.OpeningLaws.{ready}
-use Rattle.opening.specs.Opening.{openingOf}
-use Rattle.update.specs.Start.{startDeclineOf, startOf}
+use Rattle.words.proofs.DeclineLaws.{went-on}
+use Rattle.update.specs.Start.{startOf}
 use Rattle.update.proofs.StartLaws.{start-range}
 use Rattle.update_start.proofs.start.start.Statement.{statement}
 use Rattle.update_start.proofs.start.start.Tie as tie

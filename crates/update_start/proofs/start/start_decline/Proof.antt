@@ -1,12 +1,9 @@
 -- The first test that fails decides.
-use mathlib.Core.Path.{_≡_, sym, ap, _∙_}
+use mathlib.Core.Path.{sym, _∙_}
 use mathlib.Core.Bool.{not}
-use Prim.Native.Nat.{ℕ}
 use lib.Dec.{eqb}
 use borrow.Author.Tests.{eq-eqb, ne-eqb, not-true, not-false}
 use borrow.Author.Needs.{needs}
-use native.Mathlib.Omega.{arith}
-use Rattle.sequence.specs.Sequence.{tseqOf}
 use Rattle.words.proofs.DeclineLaws.{stopped, went-on}
 use Rattle.opening.proofs.OpeningLaws.{ready}
 use Rattle.update.specs.Start.{startDeclineOf}

@@ -1,13 +1,10 @@
 -- Declined by the opening or by the place, done at the total, or the action of the place.
-use mathlib.Core.Path.{_≡_, refl, sym, ap, _∙_}
-use Prim.Native.Nat.{_<_}
 use borrow.Author.Tests.{eq-eqb, ne-eqb, lt-ltb, le-ltb}
 use borrow.Author.Needs.{needs}
 use native.Mathlib.Omega.{arith}
 use Rattle.words.proofs.DeclineLaws.{stopped, went-on}
 use Rattle.opening.proofs.OpeningLaws.{ready}
-use Rattle.update.specs.Actions.{totalOf}
-use Rattle.update.specs.Turn.{turning, actOf, turnDeclineOf, turnOf}
+use Rattle.update.specs.Turn.{actOf, turnDeclineOf, turnOf}
 use Rattle.update.proofs.FormLaws.{actions-formed, total-high}
 use Rattle.update_turn.proofs.turn.turn.Statement.{statement}
 use Rattle.update_turn.proofs.turn.turn.Tie as tie
