@@ -1,4 +1,4 @@
-//! The largest image in byte lanes and back, beside plain loops of the same shape.
+//! The largest image in byte lanes and back, beside plain loops.
 
 use model::generate::random_image;
 use model::geometry::Geometry;
