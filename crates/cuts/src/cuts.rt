@@ -1,4 +1,5 @@
 // The cuts of an update.
+// What asks for room or for numbers in a range is no call of the device: its callers show it.
 ghost use Prim.Native.Nat.{_≤_, _<_};
 ghost use mathlib.Core.Path.{_≡_};
 ghost use lib.ListN.{length};

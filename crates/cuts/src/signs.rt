@@ -1,4 +1,5 @@
 // The signs that are updated, their words, and the masks of the cuts.
+// What asks for room or for numbers in a range is no call of the device: its callers show it.
 ghost use Prim.Native.Nat.{_≤_, _<_};
 ghost use lib.ListN.{length};
 use geometry::banks::Geometry;

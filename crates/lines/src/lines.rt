@@ -1,4 +1,5 @@
 // The lines that a play prints.
+// What asks for room is no call of the paper: its callers show it.
 ghost use mathlib.Core.Path.{_≡_};
 ghost use Prim.Native.Nat.{_+_, _≤_, _<_};
 ghost use lib.ListN.{length};

@@ -3,7 +3,7 @@ ghost use mathlib.Core.Path.{_≡_};
 ghost use lib.ListN.{length};
 ghost use Rattle.geometry.specs.Banks.{InRange, bankWordsOf};
 ghost use Rattle.machine.specs.Machine.{state};
-ghost use Rattle.update.specs.Start.{otherWordOf, clashOf, sequenceAllowsOf, upperFreeOf, startDeclineOf, startOf};
+ghost use Rattle.update.specs.Start.{clashOf, sequenceAllowsOf, upperFreeOf, startDeclineOf, startOf};
 use device::record::Device;
 use device::registers::Nvmbwp;
 use device::registers::Nvmcon;
@@ -22,19 +22,6 @@ use update_actions::actions::total;
 use update_actions::lower_word::lower_word;
 use words::decline::Decline;
 use words::word::has;
-
-// The sequence word of the other bank.
-fn other_word(g: Geometry, d: Device, one: &[u32], two: &[u32]) -> u32
-    requires { ⌜ InRange g ⌝ }
-    requires { ⌜ (length (now one) ≡ bankWordsOf g) × (length (now two) ≡ bankWordsOf g) ⌝ }
-    ensures { λ r. ⌜ r ≡ otherWordOf g (state d (now (one .entry)) (now (two .entry))) ⌝ }
-{
-    let i = sequence_index(g) as usize;
-    if has(d.nvmcon.0, Nvmcon::BFSWAP) {
-        return one[i];
-    }
-    two[i]
-}
 
 // Whether a bit position is at 1 in both halves.
 fn clashes(w: u32) -> bool
@@ -59,7 +46,8 @@ fn sequence_allows(g: Geometry, d: Device, one: &[u32], two: &[u32]) -> bool
     if has(d.nvmcon.0, Nvmcon::PFSWAP) != bfswap {
         return false;
     }
-    let other = other_word(g, d, one, two);
+    // the lower bank of the banks exchanged is the other bank
+    let other = lower_word(g, d, two, one);
     if is_valid(other) {
         return true;
     }
