@@ -1,22 +1,20 @@
 -- Stores and register reads: why they are declined, and what they do. Assumes nothing.
 use Prim.Native.Nat.{ℕ}
-use mathlib.Core.Bool.{Bool, true, false, _&&_}
+use mathlib.Core.Bool.{Bool, true, false}
 use mathlib.Core.List.{List, []}
 use lib.Dec.{eqb, ltb}
 use lib.ListN.{set}
-use Rattle.words.specs.Word.{pick, hasOf, mergeOf}
+use Rattle.words.specs.Word.{pick, mergeOf}
 use Rattle.geometry.specs.declared.banks.Geometry.{Geometry}
 use Rattle.words.specs.declared.decline.Decline.{Decline}
 use Rattle.words.specs.Decline.{acceptedOf, firstOf}
 use Rattle.device.specs.declared.record.Device.{Device}
-use Rattle.fields.specs.declared.launch.Launched.{Launched}
 use Rattle.access.specs.declared.store.Stored.{Stored}
 use Rattle.access.specs.declared.store.RegisterRead.{RegisterRead}
-use Rattle.device.specs.Registers.{WR, WREN}
-use Rattle.device.specs.Record.{registerOf, withCon, running, isOpen}
+use Rattle.device.specs.Record.{registerOf, withCon, running}
 use Rattle.opening.specs.Opening.{openingOf}
-use Rattle.fields.specs.Fields.{wantedOf, keyNextOf, conTakesOf, pwpTakesOf, bwpTakesOf, con2TakesOf}
-use Rattle.fields.specs.Launch.{launched, launchOf}
+use Rattle.fields.specs.Fields.{wantedOf, keyNextOf, pwpTakesOf, bwpTakesOf, con2TakesOf}
+use Rattle.launch.specs.ConStore.{conStoreOf}
 
 -- 4 does not apply: "A register number above 10, a form above 3, or a form other than 0 for NVMKEY."
 unfoldable pub hasFormOf : ℕ → ℕ → Bool
@@ -29,18 +27,6 @@ storeDeclineOf g d r form =
     (pick (hasFormOf r form)
     (pick (running d) Decline.Running Decline.Accepted)
     Decline.Register)
-
--- "wanted 1 with WREN = 1 and key open launches"
-unfoldable pub launchesOf : Device → ℕ → Bool
-launchesOf d w = hasOf w WR && (hasOf (d .nvmcon .0) WREN && isOpen d)
-
--- the device whose NVMCON has taken the wanted value, field by field
-abbrev pub takenOf : Device → ℕ → Device
-takenOf d w = withCon d (mergeOf (conTakesOf d) w (d .nvmcon .0)) (d .keystep) (d .step)
-
--- NVMCON after a store to it, and the event
-unfoldable pub conStoreOf : Geometry → Device → ℕ → Launched
-conStoreOf g d w = pick (launchesOf d w) (launchOf g (takenOf d w)) (launched (takenOf d w .nvmcon .0) false)
 
 abbrev pub dataAfter : List ℕ → ℕ → ℕ → List ℕ
 dataAfter quad r w =

@@ -1,7 +1,7 @@
 // Stores and register reads.
 ghost use mathlib.Core.Path.{_≡_};
 ghost use Rattle.geometry.specs.Banks.{InRange};
-ghost use Rattle.access.specs.Store.{hasFormOf, storeDeclineOf, launchesOf, conStoreOf, appliedOf, storeAcceptedOf, storeOf, readDeclineOf, registerReadOf};
+ghost use Rattle.access.specs.Store.{hasFormOf, storeDeclineOf, appliedOf, storeAcceptedOf, storeOf, readDeclineOf, registerReadOf};
 use device::record::Device;
 use device::record::register;
 use device::registers::Nvmbwp;
@@ -9,15 +9,13 @@ use device::registers::Nvmcon;
 use device::registers::Nvmcon2;
 use device::registers::Nvmpwp;
 use fields::fields::bwp_takes;
-use fields::fields::con_takes;
 use fields::fields::con2_takes;
 use fields::fields::key_next;
 use fields::fields::pwp_takes;
 use fields::fields::wanted;
-use fields::launch::Launched;
-use fields::launch::launch;
 use geometry::banks::Geometry;
 use geometry::lent::Lent;
+use launch::con_store::con_store;
 use opening::opening::opening;
 use words::decline::Decline;
 use words::word::has;
@@ -67,36 +65,6 @@ fn store_decline(g: Geometry, d: Device, number: u32, form: u32) -> Decline
         return Decline::Running;
     }
     Decline::Accepted
-}
-
-// Whether a store to NVMCON launches.
-fn launches(d: Device, w: u32) -> bool
-    ensures { λ r. ⌜ r ≡ launchesOf d w ⌝ }
-{
-    if !has(w, Nvmcon::WR) {
-        return false;
-    }
-    if !has(d.nvmcon.0, Nvmcon::WREN) {
-        return false;
-    }
-    d.keystep == 3
-}
-
-// NVMCON after a store, and whether there was an event.
-fn con_store(g: Geometry, d: Device, w: u32) -> Launched
-    requires { ⌜ InRange g ⌝ }
-    ensures { λ r. ⌜ r ≡ conStoreOf g d w ⌝ }
-{
-    let mut taken = d;
-    let nvmcon = Nvmcon::new(merge(con_takes(d), w, d.nvmcon.0));
-    taken.nvmcon = nvmcon;
-    if launches(d, w) {
-        return launch(g, taken);
-    }
-    Launched {
-        nvmcon: taken.nvmcon.0,
-        event: false,
-    }
 }
 
 // The device after a store to another register than NVMCON.

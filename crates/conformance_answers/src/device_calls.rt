@@ -11,7 +11,7 @@ use conformance_io::records::with_device;
 use geometry::banks::Geometry;
 use geometry::banks::in_range;
 use opening::possible::is_possible;
-use operation::protection::is_protected;
+use protection::protection::is_protected;
 use sequence::sequence::bfswap;
 use start_up::start_up::start_up;
 

@@ -1,5 +1,5 @@
 // Numbers on standard output.
-use crate::sums::Sums;
+use cut_updates::sums::Sums;
 use libc::STDOUT_FILENO;
 
 // The first number of a line.

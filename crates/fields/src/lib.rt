@@ -1,3 +1,2 @@
-// Which fields take a stored value, and the launch.
+// Which fields take a stored value.
 pub mod fields;
-pub mod launch;

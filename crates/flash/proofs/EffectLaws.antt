@@ -20,7 +20,7 @@ use Rattle.geometry.proofs.SizeLaws.{Unit, quad-unit, row-unit, page-unit}
 use Rattle.map.proofs.WindowLaws.{unit-room, quad-in-bank}
 use Rattle.device.specs.declared.record.Device.{Device}
 use Rattle.device.specs.Record.{opOf, bfswap, pfswap}
-use Rattle.operation.specs.Protection.{pwpOf}
+use Rattle.protection.specs.Protection.{pwpOf}
 use Rattle.operation.specs.Operation.{unitOf, targetOf, pageProtectedOf, targetBeginsOf, beginsAtOf, lengthOf}
 use Rattle.flash.specs.declared.effect.Effect.{Effect}
 use Rattle.flash.specs.Effect.{Runs, regionSteps, stepAtOf, stepLocationOf, blockedOf, sourceWordOf, sourceFitsOf, oldQuadOf, effectAtOf, effectOf}

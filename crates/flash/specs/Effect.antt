@@ -13,7 +13,7 @@ use Rattle.geometry.specs.Banks.{InRange}
 use Rattle.map.specs.Windows.{located, pageOf, quadIndexOf, inSecondOf}
 use Rattle.device.specs.declared.record.Device.{Device}
 use Rattle.device.specs.Record.{opOf, bfswap, pfswap}
-use Rattle.operation.specs.Protection.{bootProtectedOf}
+use Rattle.protection.specs.Protection.{bootProtectedOf}
 use Rattle.operation.specs.Operation.{targetOf, beginsOf, lengthOf}
 use Rattle.flash.specs.declared.effect.Effect.{Effect}
 

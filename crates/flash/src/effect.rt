@@ -17,7 +17,7 @@ use map::windows::page;
 use map::windows::quad_index;
 use operation::operation::op;
 use operation::operation::target;
-use operation::protection::is_boot_protected;
+use protection::protection::is_boot_protected;
 use words::quad::is_blank;
 use words::quad::put_quad;
 use words::quad::quad_at;

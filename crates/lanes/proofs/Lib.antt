@@ -1,9 +1,6 @@
 pub mod TabulateLaws
 pub mod LaneLaws
-pub mod PutLaws
 pub mod MoveLaws
-pub mod InterleaveLaws
-pub mod BlockLaws
 pub mod DeclineLaws
 pub mod ImageBytesLaws
 pub mod RoundTrip

@@ -2,8 +2,8 @@
 ghost use mathlib.Core.Path.{_≡_};
 ghost use lib.ListN.{length};
 ghost use Rattle.lanes.specs.Lanes.{lanesOutOf, lanesBackOf, lanesDeclineOf, targetOf};
-use crate::blocks::block_end;
-use crate::blocks::words_back;
+use interleave::blocks::block_end;
+use interleave::blocks::words_back;
 use words::decline::Decline;
 
 // Why a way out or back is declined, by the lengths of its source and target.

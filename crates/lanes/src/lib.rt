@@ -1,4 +1,2 @@
 // Byte lanes: an image's bytes with like bytes together, and the way back.
-mod blocks;
-mod interleave;
 pub mod lanes;

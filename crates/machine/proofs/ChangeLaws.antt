@@ -16,13 +16,14 @@ use Rattle.words.proofs.BitLaws.{bit-or, clear-bit}
 use Rattle.words.proofs.MaskLaws.{Within, outside-bit, merge-keeps}
 use Rattle.geometry.specs.declared.banks.Geometry.{Geometry}
 use Rattle.device.specs.declared.record.Device.{Device}
-use Rattle.fields.specs.declared.launch.Launched.{Launched}
+use Rattle.launch.specs.declared.launch.Launched.{Launched}
 use Rattle.device.specs.Registers.{WRERR, LVDERR}
 use Rattle.device.specs.Record.{registerOf, opOf}
 use Rattle.operation.specs.Operation.{beginsOf}
 use Rattle.fields.specs.Fields.{conTakesOf}
-use Rattle.fields.specs.Launch.{launched, launchOf}
-use Rattle.access.specs.Store.{launchesOf, takenOf, conStoreOf, dataAfter, appliedOf}
+use Rattle.launch.specs.Launch.{launched, launchOf}
+use Rattle.access.specs.Store.{dataAfter, appliedOf}
+use Rattle.launch.specs.ConStore.{launchesOf, takenOf, conStoreOf}
 
 -- ---- NVMCON: a bit that does not take and is none of WR, WRERR and LVDERR stays
 module _ (g : Geometry) (d : Device) (k : ℕ) (apart : bit k 0xB000 ≡ false) where

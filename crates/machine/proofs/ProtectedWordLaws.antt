@@ -19,7 +19,7 @@ use Rattle.geometry.specs.Banks.{pageBytesOf, pageWordsOf, bootWordsOf, bootQua
 use Rattle.map.specs.Windows.{windowBytesOf, pageOf, quadIndexOf}
 use Rattle.device.specs.declared.record.Device.{Device}
 use Rattle.device.specs.Record.{bfswap, pfswap}
-use Rattle.operation.specs.Protection.{protectedOf}
+use Rattle.protection.specs.Protection.{protectedOf}
 use Rattle.flash.specs.Effect.{stepLocationOf}
 use Rattle.flash.proofs.EffectLaws.{runs-room}
 use Rattle.reads.specs.Read.{secondAtOf}

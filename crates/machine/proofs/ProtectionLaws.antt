@@ -22,7 +22,7 @@ use Rattle.geometry.proofs.SizeLaws.{Unit, quad-unit, row-unit, page-unit, roun
 use Rattle.map.proofs.WindowLaws.{unit-kept, page-below}
 use Rattle.device.specs.declared.record.Device.{Device}
 use Rattle.device.specs.Record.{opOf, bfswap, pfswap}
-use Rattle.operation.specs.Protection.{pwpOf, programProtectedOf, pageOffsetOf, bootProtectedOf, protectedOf, anyProtectedOf}
+use Rattle.protection.specs.Protection.{pwpOf, programProtectedOf, pageOffsetOf, bootProtectedOf, protectedOf, anyProtectedOf}
 use Rattle.operation.specs.Operation.{unitOf, targetOf, targetBeginsOf, regionBeginsOf, beginsAtOf, lengthOf}
 use Rattle.flash.specs.Effect.{Runs, stepAtOf, stepLocationOf, blockedOf, oldQuadOf, effect, effectAtOf, effectOf}
 use Rattle.flash.proofs.EffectLaws.{begins-inside, none-above, step-room, Room}

@@ -14,7 +14,8 @@ use Rattle.device.specs.declared.record.Device.{Device}
 use Rattle.device.specs.Registers.{WR}
 use Rattle.device.specs.Record.{registerOf, withCon, running}
 use Rattle.fields.specs.Fields.{wantedOf, conTakesOf}
-use Rattle.access.specs.Store.{hasFormOf, launchesOf, conStoreOf, appliedOf, accepted, storeAcceptedOf, storeOf}
+use Rattle.access.specs.Store.{hasFormOf, appliedOf, accepted, storeAcceptedOf, storeOf}
+use Rattle.launch.specs.ConStore.{launchesOf, conStoreOf}
 use Rattle.start_up.specs.StartUp.{Access, storesOf}
 use Rattle.access.proofs.AcceptedLaws.{AtRest}
 use Rattle.machine.specs.Machine.{State, state, runOf, AllAccepted, BringWords, storeOperations}

@@ -14,14 +14,15 @@ use Rattle.words.proofs.MaskLaws.{Within, merge-set, merge-clear, merge-none}
 use Rattle.geometry.specs.declared.banks.Geometry.{Geometry}
 use Rattle.words.specs.Decline.{acceptedOf}
 use Rattle.device.specs.declared.record.Device.{Device}
-use Rattle.fields.specs.declared.launch.Launched.{Launched}
+use Rattle.launch.specs.declared.launch.Launched.{Launched}
 use Rattle.access.specs.declared.store.Stored.{Stored}
 use Rattle.device.specs.Registers.{WR, WREN, WRERR, LVDERR, NVMOP, LBWPULOCK, UBWPULOCK}
 use Rattle.device.specs.Record.{registerOf, withCon, isOpen, opOf}
 use Rattle.operation.specs.Operation.{beginsOf}
 use Rattle.fields.specs.Fields.{wantedOf, keyNextOf, conTakesOf, bwpTakesOf, lowerTakesOf}
-use Rattle.fields.specs.Launch.{launched, launchOf}
-use Rattle.access.specs.Store.{hasFormOf, storeDeclineOf, launchesOf, conStoreOf, appliedOf, accepted, storeAcceptedOf, storeOf}
+use Rattle.launch.specs.Launch.{launched, launchOf}
+use Rattle.access.specs.Store.{hasFormOf, storeDeclineOf, appliedOf, accepted, storeAcceptedOf, storeOf}
+use Rattle.launch.specs.ConStore.{launchesOf, conStoreOf}
 use Rattle.start_up.specs.StartUp.{storesOf, keyStores}
 use Rattle.fields.proofs.FieldLaws.{con-takes-wren, con-takes-enabled, con-takes-shut}
 use Rattle.access.proofs.AcceptedLaws.{AtRest, rest-opens}

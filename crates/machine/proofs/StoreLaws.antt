@@ -18,15 +18,16 @@ use Rattle.words.proofs.MaskLaws.{Within, merge-within, or-within, clear-within
 use Rattle.geometry.specs.declared.banks.Geometry.{Geometry}
 use Rattle.words.specs.Decline.{acceptedOf}
 use Rattle.device.specs.declared.record.Device.{Device}
-use Rattle.fields.specs.declared.launch.Launched.{Launched}
+use Rattle.launch.specs.declared.launch.Launched.{Launched}
 use Rattle.access.specs.declared.store.Stored.{Stored}
 use Rattle.device.specs.Registers.{WR, WRERR, LVDERR, ALWAYS}
 use Rattle.device.specs.Record.{registerOf, withCon, running, opOf}
 use Rattle.operation.specs.Operation.{beginsOf, lengthOf}
 use Rattle.opening.specs.Possible.{runningOf, possibleOf}
 use Rattle.fields.specs.Fields.{wantedOf, conTakesOf, bwpTakesOf}
-use Rattle.fields.specs.Launch.{launched, launchOf}
-use Rattle.access.specs.Store.{storeDeclineOf, launchesOf, conStoreOf, dataAfter, appliedOf, storeAcceptedOf, storeOf, readDeclineOf, registerReadOf}
+use Rattle.launch.specs.Launch.{launched, launchOf}
+use Rattle.access.specs.Store.{storeDeclineOf, dataAfter, appliedOf, storeAcceptedOf, storeOf, readDeclineOf, registerReadOf}
+use Rattle.launch.specs.ConStore.{launchesOf, conStoreOf}
 use Rattle.operation.proofs.OperationLaws.{length-pos}
 use Rattle.fields.proofs.FieldLaws.{con-takes-within, pwp-takes-within, bwp-takes-within, con2-takes-within, key-next-high}
 use Rattle.opening.proofs.PossibleLaws.{Implemented, Possible, possible, possible-test, idle-step, same-rows}

@@ -15,7 +15,7 @@ use Rattle.geometry.specs.declared.banks.Geometry.{Geometry}
 use Rattle.words.specs.Decline.{acceptedOf}
 use Rattle.map.specs.Windows.{pageOf}
 use Rattle.device.specs.Record.{running}
-use Rattle.operation.specs.Protection.{protectedOf}
+use Rattle.protection.specs.Protection.{protectedOf}
 use Rattle.flash.specs.Effect.{Runs, stepLocationOf, effectOf}
 use Rattle.flash.specs.Step.{After, after, stepDeclineOf, oneAfter, twoAfter, stepAcceptedOf, stepOf}
 use Rattle.flash.proofs.EffectLaws.{effect-second, effect-quad}

@@ -8,7 +8,7 @@ use Rattle.geometry.specs.declared.banks.Geometry.{Geometry}
 use Rattle.geometry.specs.Banks.{pageWordsOf, bootWordsOf}
 use Rattle.device.specs.declared.record.Device.{Device}
 use Rattle.device.specs.Record.{bfswap, pfswap}
-use Rattle.operation.specs.Protection.{protectedOf}
+use Rattle.protection.specs.Protection.{protectedOf}
 
 -- "Each of two banks has B boot pages, then P program pages": the kind of word v of a bank, and its page of that kind
 abbrev pub isProgramWord : Geometry → ℕ → Bool

@@ -9,7 +9,7 @@ use Rattle.geometry.proofs.SizeLaws.{in-range}
 use Rattle.sequence.proofs.Bench as sequence-bench
 use Rattle.geometry.specs.Banks.{roundDownOf}
 use Rattle.map.specs.Windows.{locateOf}
-use Rattle.operation.specs.Protection.{programProtectedOf, protectedOf}
+use Rattle.protection.specs.Protection.{programProtectedOf, protectedOf}
 use Rattle.operation.specs.Operation.{unitOf, targetOf}
 use Rattle.operation.specs.Bench.{Bench}
 

@@ -15,7 +15,7 @@ use Rattle.geometry.specs.Banks.{InRange, roundDownOf}
 use Rattle.map.specs.Windows.{windowBytesOf, pageOf}
 use Rattle.map.proofs.WindowLaws.{stands, page-below}
 use Rattle.device.specs.declared.record.Device.{Device}
-use Rattle.operation.specs.Protection.{pwpOf, programProtectedOf, pageOffsetOf, protectedOf, anyProtectedOf}
+use Rattle.protection.specs.Protection.{pwpOf, programProtectedOf, pageOffsetOf, protectedOf, anyProtectedOf}
 use Rattle.operation.specs.Operation.{unitOf, targetOf, regionBeginsOf, lengthOf}
 
 module _ (g : Geometry) (ok : InRange g) where

@@ -7,7 +7,7 @@ use Rattle.geometry.specs.Banks.{inRangeOf}
 use Rattle.map.specs.Windows.{locateOf}
 use Rattle.sequence.specs.Bench as sequence-bench
 use Rattle.device.specs.declared.record.Device.{Device}
-use Rattle.operation.specs.Protection.{pwpOf, protectedOf}
+use Rattle.protection.specs.Protection.{pwpOf, protectedOf}
 use Rattle.operation.specs.Operation.{targetOf}
 
 pub record Bench : Type 0 where

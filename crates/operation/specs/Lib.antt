@@ -1,3 +1,2 @@
-pub mod Protection
 pub mod Operation
 pub mod Bench

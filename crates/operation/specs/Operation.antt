@@ -9,7 +9,7 @@ use Rattle.geometry.specs.Banks.{rowBytesOf, pageBytesOf, roundDownOf}
 use Rattle.map.specs.Windows.{locateOf, pageOf}
 use Rattle.device.specs.declared.record.Device.{Device}
 use Rattle.device.specs.Record.{opOf}
-use Rattle.operation.specs.Protection.{pwpOf, programProtectedOf, pageOffsetOf, anyProtectedOf}
+use Rattle.protection.specs.Protection.{pwpOf, programProtectedOf, pageOffsetOf, anyProtectedOf}
 
 -- "NVMOP 2 quad, 3 row, 4 page erase: NVMADDR is rounded down to 16, 16×Q or 128×Q bytes."
 unfoldable pub unitOf : Geometry → ℕ → ℕ

@@ -1,3 +1,2 @@
-// Protection, and the operation that NVMOP names.
+// The operation that NVMOP names.
 pub mod operation;
-pub mod protection;

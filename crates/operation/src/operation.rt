@@ -3,10 +3,8 @@
 ghost use mathlib.Core.Path.{_≡_};
 ghost use Rattle.geometry.specs.Banks.{InRange};
 ghost use Rattle.device.specs.Record.{opOf};
-ghost use Rattle.operation.specs.Protection.{pwpOf};
+ghost use Rattle.protection.specs.Protection.{pwpOf};
 ghost use Rattle.operation.specs.Operation.{unitOf, targetOf, targetBeginsOf, regionBeginsOf, beginsOf, lengthOf};
-use crate::protection::is_protected;
-use crate::protection::pwp;
 use device::record::Device;
 use geometry::banks::Geometry;
 use geometry::banks::page_bytes;
@@ -15,6 +13,8 @@ use geometry::banks::row_bytes;
 use map::windows::Location;
 use map::windows::locate;
 use map::windows::page;
+use protection::protection::is_protected;
+use protection::protection::pwp;
 
 // NVMOP.
 pub fn op(d: Device) -> u32

@@ -14,7 +14,8 @@ use Rattle.machine.proofs.MachineLaws.{run-append}
 use Rattle.machine.proofs.Machine.{controller}
 use Rattle.records.specs.declared.records.Record.{Record}
 use Rattle.records.specs.Records.{valueOf, recordOf}
-use Rattle.script.specs.Play.{recordAfterOf, stateOf, operationOf, operationsOf}
+use Rattle.play_record.specs.Record.{recordAfterOf}
+use Rattle.script.specs.Play.{stateOf, operationOf, operationsOf}
 
 record-runs : (g : Geometry) (sram : List ℕ) (s : State) (r : Record) → left (recordAfterOf g sram s r) ≡ transitionOf g s (operationOf sram r)
 unfolding recordAfterOf

@@ -21,8 +21,9 @@ use Rattle.lines.proofs.BufferLaws.{sets-out, sets-after, sets-front}
 use Rattle.lines.proofs.LineLaws.{line-length, length-counted}
 use Rattle.records.specs.declared.records.Record.{Record}
 use Rattle.records.specs.Records.{recordOf, recordsOf}
-use Rattle.script.specs.Play.{recordAfterOf, stateOf, recordLineOf, linesOf, declineOf, playback, playedOf, playOf, playLengthOf}
-use Rattle.script.proofs.AnswerLaws.{record-digit}
+use Rattle.play_record.specs.Record.{recordAfterOf}
+use Rattle.play_record.proofs.AnswerLaws.{record-digit}
+use Rattle.script.specs.Play.{stateOf, recordLineOf, linesOf, declineOf, playback, playedOf, playOf, playLengthOf}
 
 -- the length of the output is known before it is played
 pub lines-length : (g : Geometry) (sram : List ℕ) (s : State) (script : List ℕ) (n : ℕ) → length (linesOf g sram s script n) ≡ linesLengthOf n

@@ -11,29 +11,12 @@ use Rattle.words.specs.declared.decline.Decline.{Decline}
 use Rattle.words.specs.Decline.{numberOf, acceptedOf, firstOf}
 use Rattle.device.specs.declared.record.Device.{Device}
 use Rattle.opening.specs.Opening.{openingOf}
-use Rattle.access.specs.declared.store.Stored.{Stored}
-use Rattle.access.specs.Store.{storeOf}
-use Rattle.flash.specs.Step.{After, after, stepOf}
-use Rattle.resets.specs.Reset.{resetOf}
+use Rattle.flash.specs.Step.{After}
 use Rattle.machine.specs.Machine.{State, left, Operation}
+use Rattle.play_record.specs.Record.{maskZero, recordAfterOf}
 use Rattle.script.specs.declared.play.PlayLength.{PlayLength}
 use Rattle.records.specs.declared.records.Record.{Record}
 use Rattle.records.specs.Records.{recordOf, recordsOf, isScriptOf}
-
--- "Resets use mask 0."
-abbrev pub maskZero : List ℕ
-maskZero = 0 ∷ 0 ∷ 0 ∷ 0 ∷ []
-
--- everything after a store
-abbrev pub storedOf : State → Stored → After
-storedOf s a = after (a .decline) (a .device) (s .one) (s .two) (a .event)
-
--- everything after a record: "kind (0 store, 1 step, 2 reset)". A kind above 2 is none of a script's
-unfoldable pub recordAfterOf : Geometry → List ℕ → State → Record → After
-recordAfterOf g sram s r =
-    pick (eqb (r .kind) 0) (storedOf s (storeOf g (s .device) (r .number) (r .form) (r .value)))
-    (pick (eqb (r .kind) 1) (stepOf g (s .device) (s .one) (s .two) sram)
-    (resetOf g (s .device) (s .one) (s .two) sram (r .number) maskZero))
 
 -- the state after the first i records: "A refused record is printed and play goes on."
 abbrev pub stateOf : Geometry → List ℕ → State → List ℕ → ℕ → State

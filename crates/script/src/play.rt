@@ -1,21 +1,16 @@
 // Playing a script on lent banks.
 ghost use mathlib.Core.Path.{_≡_};
-ghost use Rattle.flash.specs.Step.{after};
 ghost use Rattle.machine.specs.Machine.{state};
-ghost use Rattle.script.specs.Play.{recordAfterOf, playDeclineOf, playback, playedOf, playOf, playLengthOf};
-use access::store::store;
+ghost use Rattle.script.specs.Play.{playDeclineOf, playback, playedOf, playOf, playLengthOf};
 use device::record::Device;
-use flash::step::Stepped;
-use flash::step::step;
 use geometry::banks::Geometry;
 use geometry::lent::Lent;
 use lines::lines::lines_length;
 use lines::lines::write_line;
 use opening::opening::opening;
-use records::records::Record;
+use play_record::record::play_record;
 use records::records::is_script;
 use records::records::record_at;
-use resets::reset::reset;
 use words::decline::Decline;
 
 // The answer to a play, and the bytes of its whole output: where the buffer is shorter, it holds the output's front.
@@ -50,40 +45,6 @@ fn play_decline(
         return Decline::Script;
     }
     Decline::Accepted
-}
-
-// Plays one record.
-fn play_record(
-    g: Geometry,
-    d: Device,
-    one: &mut [u32],
-    two: &mut [u32],
-    sram: &[u32],
-    r: Record,
-) -> Stepped
-    ensures { λ a. ⌜ after (a .decline) (a .device) (now (one .exit)) (now (two .exit)) (a .event) ≡ recordAfterOf g (now (sram .entry)) (state d (now (one .entry)) (now (two .entry))) r ⌝ }
-{
-    if r.kind == 0 {
-        let a = store(g, d, r.number, r.form, r.value);
-        let decline = a.decline;
-        let device = a.device;
-        return Stepped {
-            decline,
-            device,
-            event: a.event,
-        };
-    }
-    if r.kind == 1 {
-        return step(g, d, one, two, sram);
-    }
-    let a = reset(g, d, one, two, sram, r.number, [0; 4]);
-    let decline = a.decline;
-    let device = a.device;
-    Stepped {
-        decline,
-        device,
-        event: false,
-    }
 }
 
 // Plays a script that is not declined: every record, each with its line.

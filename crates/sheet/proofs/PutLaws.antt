@@ -1,69 +1,20 @@
--- Bytes written one after another: a number's blanks and its digits, the columns of a line, the lines.
+-- Lines written one after another: the pages of a kind, the kinds of a bank, the banks.
 -- Assumes nothing.
 use mathlib.Core.Path.{_≡_, sym, _∙_}
 use mathlib.Core.Bool.{Bool, true, false}
-use mathlib.Core.List.{List, [], _∷_, _++_}
-use Prim.Native.Nat.{ℕ, suc, _+_, _-_, _*_, _≤_, _<_}
+use mathlib.Core.List.{List, _++_}
+use Prim.Native.Nat.{ℕ, suc, _+_, _*_, _≤_, _<_}
 use native.Mathlib.Omega.{arith}
-use lib.ListN.{length, set, replicate, length-replicate}
+use lib.ListN.{length}
 use lib.Seq.{sets, take-all}
-use Rattle.lines.specs.Digits.{digitsOf, widthOf}
-use Rattle.lines.specs.Lines.{blank, lineFeed, flagOf}
-use Rattle.lines.proofs.BufferLaws.{sets-append, sets-after, sets-front}
+use Rattle.lines.proofs.BufferLaws.{sets-after, sets-front}
 use Rattle.geometry.specs.declared.banks.Geometry.{Geometry}
 use Rattle.geometry.specs.Banks.{InRange, pagesOf}
 use Rattle.device.specs.declared.record.Device.{Device}
-use Rattle.sheet.specs.declared.state.PageState.{PageState}
-use Rattle.sheet.specs.Line.{rightOf, rightColumnOf, letterOf, bankNumberOf, kindLetterOf, sideLetterOf, lineOf}
-use Rattle.sheet.specs.State.{kindPagesOf, pageStateOf}
+use Rattle.page_state.specs.State.{kindPagesOf, pageStateOf}
+use Rattle.page_line.specs.Line.{lineOf}
 use Rattle.sheet.specs.Sheet.{linesOf, kindLinesOf, bankLinesOf, sheetOf, sheetBytesOf, withSheet}
-use Rattle.sheet.proofs.WidthLaws.{page-width, bank-width, flag-width, right-length, right-column-length, lines-length, kind-few, bank-bytes, sheet-bytes}
-
--- a blank, and then the others
-pub put-blank : (out : List ℕ) (at count i : ℕ) → i < count
-    → sets (set out (at + i) blank) (at + (i + 1)) (replicate (count - (i + 1)) blank) ≡ sets out (at + i) (replicate (count - i) blank)
-put-blank out at count i l =
-    let e : count - i ≡ suc (count - (i + 1)) = omega arith in
-    let s : at + (i + 1) ≡ suc (at + i) = omega arith in
-    rw (e, s)
-
--- the blanks, and then the digits
-pub put-right : (out : List ℕ) (at columns n : ℕ)
-    → sets (sets out at (replicate (columns - widthOf n) blank)) (at + (columns - widthOf n)) (digitsOf 10 n (widthOf n)) ≡ sets out at (rightOf columns n)
-put-right out at columns n =
-    let padding = replicate (columns - widthOf n) blank in
-    rw (sets-append out at padding (digitsOf 10 n (widthOf n)), length-replicate (columns - widthOf n) blank)
-
--- a number, and then the byte after it
-pub put-right-column : (out : List ℕ) (at columns n end : ℕ) → widthOf n ≤ columns
-    → set (sets out at (rightOf columns n)) (at + columns) end ≡ sets out at (rightColumnOf columns n end)
-put-right-column out at columns n end l = rw (sets-append out at (rightOf columns n) (end ∷ []), right-length columns n l)
-
--- the columns of a line, each after the one before
-pub put-line : (out : List ℕ) (at : ℕ) (s : PageState) → s .page < 1000
-    → sets (sets (sets (sets (sets (sets out at (rightColumnOf 1 (bankNumberOf (s .second)) blank)) (at + 2) (letterOf (kindLetterOf (s .program)))) (at + 4) (rightColumnOf 3 (s .page) blank)) (at + 8) (letterOf (sideLetterOf (s .upper)))) (at + 10) (rightColumnOf 1 (flagOf (s .protected)) blank)) (at + 12) (rightColumnOf 4 (s .quads) lineFeed)
-    ≡ sets out at (lineOf s)
-unfolding lineOf
-put-line out at s few =
-    let bank = rightColumnOf 1 (bankNumberOf (s .second)) blank in
-    let kind = letterOf (kindLetterOf (s .program)) in
-    let page = rightColumnOf 3 (s .page) blank in
-    let side = letterOf (sideLetterOf (s .upper)) in
-    let protection = rightColumnOf 1 (flagOf (s .protected)) blank in
-    let quads = rightColumnOf 4 (s .quads) lineFeed in
-    let out1 = sets out at bank in
-    let out2 = sets out1 (at + 2) kind in
-    let out3 = sets out2 (at + 4) page in
-    let out4 = sets out3 (at + 8) side in
-    rw (
-      sets-after out at (at + 2) bank (kind ++ (page ++ (side ++ (protection ++ quads)))) (omega (arith, right-column-length 1 (bankNumberOf (s .second)) blank (bank-width (s .second)))),
-      sets-after out1 (at + 2) (at + 4) kind (page ++ (side ++ (protection ++ quads))) (omega arith),
-      sets-after out2 (at + 4) (at + 8) page (side ++ (protection ++ quads)) (omega (arith, right-column-length 3 (s .page) blank (page-width (s .page) few))),
-      sets-after out3 (at + 8) (at + 10) side (protection ++ quads) (omega arith),
-      sets-after out4 (at + 10) (at + 12) protection quads (omega (arith, right-column-length 1 (flagOf (s .protected)) blank (flag-width (s .protected)))),
-    )
-
--- ---- lines
+use Rattle.sheet.proofs.WidthLaws.{lines-length, kind-few, bank-bytes, sheet-bytes}
 
 -- the next line after those so far
 pub put-next : (g : Geometry) → InRange g → (d : Device) (bank : List ℕ) (second program : Bool) (before : List ℕ) (at page : ℕ)

@@ -1,4 +1,2 @@
-pub mod State
-pub mod Line
 pub mod Sheet
 pub mod Widths

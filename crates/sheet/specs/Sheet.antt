@@ -11,8 +11,8 @@ use Rattle.geometry.specs.declared.banks.Geometry.{Geometry}
 use Rattle.geometry.specs.Banks.{pagesOf}
 use Rattle.device.specs.declared.record.Device.{Device}
 use Rattle.opening.specs.Opening.{openingOf}
-use Rattle.sheet.specs.State.{kindPagesOf, pageStateOf}
-use Rattle.sheet.specs.Line.{lineOf}
+use Rattle.page_state.specs.State.{kindPagesOf, pageStateOf}
+use Rattle.page_line.specs.Line.{lineOf}
 
 -- "One line a page", "ascending": the first n pages of a kind of a bank
 abbrev pub linesOf : Geometry → Device → List ℕ → Bool → Bool → ℕ → List ℕ

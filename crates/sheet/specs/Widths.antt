@@ -9,8 +9,8 @@ use Rattle.lines.specs.Digits.{widthOf}
 use Rattle.geometry.specs.declared.banks.Geometry.{Geometry}
 use Rattle.geometry.specs.Banks.{listedOf, inRangeOf, pagesOf}
 use Rattle.device.specs.declared.record.Device.{Device}
-use Rattle.sheet.specs.State.{usedQuadsOf, pageStateOf}
-use Rattle.sheet.specs.Line.{lineOf}
+use Rattle.page_state.specs.State.{usedQuadsOf, pageStateOf}
+use Rattle.page_line.specs.Line.{lineOf}
 use Rattle.sheet.specs.Sheet.{sheetOf}
 
 pub record Widths : Type 0 where

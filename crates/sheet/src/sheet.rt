@@ -5,17 +5,17 @@ ghost use Prim.Native.Nat.{_+_, _*_, _≤_};
 ghost use lib.ListN.{length};
 ghost use lib.Seq.{sets};
 ghost use Rattle.geometry.specs.Banks.{InRange, pagesOf, bankWordsOf};
-ghost use Rattle.sheet.specs.State.{kindPagesOf};
+ghost use Rattle.page_state.specs.State.{kindPagesOf};
 ghost use Rattle.sheet.specs.Sheet.{kindLinesOf, bankLinesOf, pageSheetDeclineOf, given, pageSheetOf};
-use crate::line::LINE_BYTES;
-use crate::line::put_line;
-use crate::state::kind_pages;
-use crate::state::page_state;
 use device::record::Device;
 use geometry::banks::Geometry;
 use geometry::banks::pages;
 use geometry::lent::Lent;
 use opening::opening::opening;
+use page_line::line::LINE_BYTES;
+use page_line::line::put_line;
+use page_state::state::kind_pages;
+use page_state::state::page_state;
 use words::decline::Decline;
 
 // The answer to the request, and the bytes of the sheet: 0 where it is declined.

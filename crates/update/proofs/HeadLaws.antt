@@ -18,7 +18,7 @@ use Rattle.geometry.specs.Banks.{pagesOf, pageQuadsOf, programBytesOf}
 use Rattle.device.specs.declared.record.Device.{Device}
 use Rattle.device.specs.Registers.{WR, WREN, WRERR, LVDERR, PFSWAP, BFSWAP, NVMOP, UBWPULOCK}
 use Rattle.device.specs.Record.{withCon, bfswap, pfswap, isOpen}
-use Rattle.operation.specs.Protection.{pwpOf}
+use Rattle.protection.specs.Protection.{pwpOf}
 use Rattle.operation.specs.Operation.{beginsAtOf}
 use Rattle.opening.proofs.PossibleLaws.{possible}
 use Rattle.access.specs.declared.store.Stored.{Stored}

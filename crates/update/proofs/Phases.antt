@@ -14,7 +14,7 @@ use Rattle.sequence.specs.Sequence.{sequenceIndexOf, tseqOf, validOf}
 use Rattle.device.specs.declared.record.Device.{Device}
 use Rattle.device.specs.Registers.{UBWPULOCK}
 use Rattle.device.specs.Record.{withCon, bfswap, pfswap}
-use Rattle.operation.specs.Protection.{pwpOf}
+use Rattle.protection.specs.Protection.{pwpOf}
 use Rattle.start_up.specs.StartUp.{storesOf}
 use Rattle.access.proofs.AcceptedLaws.{AtRest}
 use Rattle.machine.specs.Machine.{State, state, Sound}

@@ -22,11 +22,12 @@ use Rattle.device.specs.declared.record.Device.{Device}
 use Rattle.device.specs.Registers.{WR, WREN, LVDERR, PFSWAP, BFSWAP, NVMOP, UBWPULOCK, NVMERS, SWAPLOCK}
 use Rattle.device.specs.Record.{registerOf, withCon, running, bfswap, pfswap, opOf, isOpen}
 use Rattle.operation.specs.Operation.{lengthOf}
-use Rattle.operation.specs.Protection.{pwpOf}
+use Rattle.protection.specs.Protection.{pwpOf}
 use Rattle.opening.specs.Possible.{possibleOf}
 use Rattle.access.specs.declared.store.Stored.{Stored}
 use Rattle.fields.specs.Fields.{conTakesOf}
-use Rattle.access.specs.Store.{hasFormOf, storeDeclineOf, launchesOf, conStoreOf, appliedOf, accepted, storeAcceptedOf, storeOf}
+use Rattle.access.specs.Store.{hasFormOf, storeDeclineOf, appliedOf, accepted, storeAcceptedOf, storeOf}
+use Rattle.launch.specs.ConStore.{launchesOf, conStoreOf}
 use Rattle.start_up.specs.StartUp.{Access, access, storesOf, keyStores, startUpStores, startUpDeclineOf, startUpOf}
 use Rattle.access.proofs.AcceptedLaws.{AtRest, rest-opens}
 use Rattle.start_up.proofs.StartUpLaws.{stores-append}

@@ -22,7 +22,7 @@ use Rattle.geometry.proofs.SizeLaws.{in-range}
 use Rattle.device.specs.declared.record.Device.{Device}
 use Rattle.device.specs.Registers.{UBWPULOCK}
 use Rattle.device.specs.Record.{running, bfswap, pfswap}
-use Rattle.operation.specs.Protection.{pwpOf}
+use Rattle.protection.specs.Protection.{pwpOf}
 use Rattle.opening.specs.Opening.{openingOf}
 use Rattle.opening.proofs.OpeningLaws.{ready, opens}
 use Rattle.reads.specs.Read.{same}

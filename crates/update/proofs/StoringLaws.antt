@@ -18,7 +18,8 @@ use Rattle.device.specs.Registers.{WREN, NVMOP, SWAPLOCK}
 use Rattle.device.specs.Record.{registerOf, withCon, bfswap, isOpen}
 use Rattle.access.specs.declared.store.Stored.{Stored}
 use Rattle.fields.specs.Fields.{wantedOf, conTakesOf}
-use Rattle.access.specs.Store.{hasFormOf, conStoreOf, appliedOf, accepted, storeAcceptedOf, storeOf}
+use Rattle.access.specs.Store.{hasFormOf, appliedOf, accepted, storeAcceptedOf, storeOf}
+use Rattle.launch.specs.ConStore.{conStoreOf}
 use Rattle.start_up.specs.StartUp.{Access, access, storesOf}
 use Rattle.access.proofs.AcceptedLaws.{AtRest}
 use Rattle.start_up.proofs.StartUpLaws.{stores-append}

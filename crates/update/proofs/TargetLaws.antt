@@ -20,7 +20,7 @@ use Rattle.geometry.proofs.SizeLaws.{Unit, quad-unit, page-unit}
 use Rattle.map.proofs.WindowLaws.{window-found, round-found, page-below}
 use Rattle.device.specs.declared.record.Device.{Device}
 use Rattle.device.specs.Record.{opOf, bfswap, pfswap}
-use Rattle.operation.specs.Protection.{programProtectedOf}
+use Rattle.protection.specs.Protection.{programProtectedOf}
 use Rattle.operation.specs.Operation.{unitOf, targetOf, targetBeginsOf, beginsAtOf}
 use Rattle.flash.specs.Effect.{stepAtOf, stepLocationOf, blockedOf, oldQuadOf, effect, effectAtOf, effectOf}
 use Rattle.update.specs.Actions.{upperAddressOf, bankQuadsOf}

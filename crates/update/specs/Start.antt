@@ -15,7 +15,7 @@ use Rattle.sequence.specs.Sequence.{sequenceIndexOf, tseqOf, cseqOf, validOf}
 use Rattle.device.specs.declared.record.Device.{Device}
 use Rattle.device.specs.Registers.{UBWPULOCK}
 use Rattle.device.specs.Record.{running, bfswap, pfswap}
-use Rattle.operation.specs.Protection.{pwpOf}
+use Rattle.protection.specs.Protection.{pwpOf}
 use Rattle.opening.specs.Opening.{openingOf}
 use Rattle.reads.specs.Read.{same}
 use Rattle.resets.specs.Reset.{comparedOf}

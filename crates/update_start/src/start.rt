@@ -11,7 +11,7 @@ use geometry::banks::Geometry;
 use geometry::banks::program_bytes;
 use geometry::lent::Lent;
 use opening::opening::opening;
-use operation::protection::pwp;
+use protection::protection::pwp;
 use resets::reset::compared;
 use sequence::sequence::cseq;
 use sequence::sequence::is_valid;

@@ -1,7 +1,7 @@
 -- Each way through the tests is a case of the definition.
 use borrow.Author.Tests.{not-true, not-false}
 use borrow.Author.Needs.{needs}
-use Rattle.operation.specs.Protection.{protectedOf}
+use Rattle.protection.specs.Protection.{protectedOf}
 use Rattle.operation.specs.Operation.{targetBeginsOf}
 use Rattle.operation.proofs.OperationLaws.{target-page}
 use Rattle.operation.proofs.operation.target_begins.Statement.{statement}

@@ -7,7 +7,7 @@ use mathlib.Core.Path.{_≡_, refl}
 use native.Mathlib.Numerals.{add-one}
 use native.Mathlib.Omega.{arith}
 use Rattle.machine.specs.Machine.{state}
-use Rattle.script.proofs.AnswerLaws.{answer-digit}
+use Rattle.play_record.proofs.AnswerLaws.{answer-digit}
 use Rattle.script.proofs.PlayLaws.{Playing, playing-next, playing-ends}
 use Rattle.script.proofs.play.play_accepted.Statement.{statement}
 use Rattle.script.proofs.play.play_accepted.Tie as tie

@@ -1,0 +1,4 @@
+pub mod PutLaws
+pub mod RoundLaws
+pub mod InterleaveLaws
+pub mod BlockLaws

@@ -1,0 +1,25 @@
+-- "Launch and flash steps", the launch, "In this order". Assumes nothing.
+use Prim.Native.Nat.{ℕ, _+_}
+use mathlib.Core.Bool.{Bool, true, false, _||_}
+use lib.Dec.{eqb, ltb}
+use lib.Bits.{bitOr}
+use Rattle.words.specs.Word.{pick, hasOf, clearOf}
+use Rattle.geometry.specs.declared.banks.Geometry.{Geometry}
+use Rattle.device.specs.declared.record.Device.{Device}
+use Rattle.launch.specs.declared.launch.Launched.{Launched}
+use Rattle.device.specs.Registers.{WR, WRERR, LVDERR}
+use Rattle.device.specs.Record.{opOf}
+use Rattle.operation.specs.Operation.{beginsOf}
+
+abbrev pub launched : ℕ → Bool → Launched
+launched nvmcon event = record { nvmcon = nvmcon; event = event }
+
+-- "NVMOP 0: WRERR and LVDERR become 0, no event. WRERR or LVDERR set: no launch, no event. NVMOP 1 and 8 to 15: no launch, no
+-- event."; then "failure, meaning WRERR = 1, WR = 0, event", or "Otherwise WR = 1, WRERR = 1, and steps begin."
+unfoldable pub launchOf : Geometry → Device → Launched
+launchOf g d =
+    pick (eqb (opOf d) 0) (launched (clearOf (d .nvmcon .0) (WRERR + LVDERR)) false)
+    (pick (hasOf (d .nvmcon .0) (WRERR + LVDERR)) (launched (d .nvmcon .0) false)
+    (pick (ltb (opOf d) 2 || ltb 7 (opOf d)) (launched (d .nvmcon .0) false)
+    (pick (beginsOf g d) (launched (bitOr (d .nvmcon .0) (WR + WRERR)) false)
+    (launched (bitOr (d .nvmcon .0) WRERR) true))))

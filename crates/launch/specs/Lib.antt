@@ -1,0 +1,2 @@
+pub mod Launch
+pub mod ConStore

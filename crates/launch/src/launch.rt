@@ -1,0 +1,61 @@
+// The launch.
+// What asks for InRange here is no call of the device: its callers ask in_range first.
+ghost use mathlib.Core.Path.{_≡_};
+ghost use Rattle.geometry.specs.Banks.{InRange};
+ghost use Rattle.launch.specs.Launch.{launchOf};
+use device::record::Device;
+use device::registers::Nvmcon;
+use geometry::banks::Geometry;
+use operation::operation::begins;
+use operation::operation::op;
+use words::word::clear;
+use words::word::has;
+
+// NVMCON after a launch, and whether there was an event.
+pub struct Launched {
+    pub nvmcon: u32,
+    pub event: bool,
+}
+
+// The launch by a store whose fields the device has taken.
+pub fn launch(g: Geometry, d: Device) -> Launched
+    requires { ⌜ InRange g ⌝ }
+    ensures { λ r. ⌜ r ≡ launchOf g d ⌝ }
+{
+    let con = d.nvmcon.0;
+    let op = op(d);
+    if op == 0 {
+        return Launched {
+            nvmcon: clear(con, Nvmcon::WRERR + Nvmcon::LVDERR),
+            event: false,
+        };
+    }
+    if has(con, Nvmcon::WRERR + Nvmcon::LVDERR) {
+        return Launched {
+            nvmcon: con,
+            event: false,
+        };
+    }
+    if op < 2 {
+        return Launched {
+            nvmcon: con,
+            event: false,
+        };
+    }
+    if 7 < op {
+        return Launched {
+            nvmcon: con,
+            event: false,
+        };
+    }
+    if begins(g, d) {
+        return Launched {
+            nvmcon: con | Nvmcon::WR + Nvmcon::WRERR,
+            event: false,
+        };
+    }
+    Launched {
+        nvmcon: con | Nvmcon::WRERR,
+        event: true,
+    }
+}

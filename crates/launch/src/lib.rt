@@ -1,0 +1,3 @@
+// A store to NVMCON, and the launch.
+pub mod con_store;
+pub mod launch;

@@ -1,0 +1,2 @@
+// What the page sheet says of a page.
+pub mod state;

@@ -1,0 +1,2 @@
+// What a record of a script does.
+pub mod record;

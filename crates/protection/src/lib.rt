@@ -1,0 +1,2 @@
+// Protected pages.
+pub mod protection;
