@@ -113,7 +113,8 @@ fn play_records(records: &[Record]) -> String {
     text
 }
 
-fn play_record(device: Device, banks: &mut Banks, record: &Record) -> Answer<(Device, bool)> {
+/// The device after a record on the bench, and whether there was an event.
+pub fn play_record(device: Device, banks: &mut Banks, record: &Record) -> Answer<(Device, bool)> {
     match *record {
         Record::Store {
             register,

@@ -9,4 +9,5 @@ mod play;
 mod readme;
 mod run;
 mod sheet;
+mod terminal;
 mod updates;

@@ -3,6 +3,7 @@
 use model::device::{protected, Device};
 use model::flash::reset;
 use model::geometry::{Bank, Banks, Geometry, Kind, Side};
+use model::script::{play_record, Record};
 use model::sequence::new_quad;
 use model::store::start_up;
 use model::update::{turn, update_start};
@@ -16,7 +17,7 @@ pub struct Sign {
     pub geometry: Geometry,
     pub device: Device,
     pub banks: [Vec<u32>; 2],
-    /// Bank 1 before the update, and what bank 2 must come to.
+    /// Bank 1 before the update or the play, and what bank 2 must come to.
     pub old: Vec<u32>,
     pub new: Vec<u32>,
     image: Vec<u32>,
@@ -50,6 +51,34 @@ impl Sign {
         };
         assert_eq!(sign.restart(0, [0; 4]), Bank::One);
         sign
+    }
+
+    /// "all ones but bank 1's sequence word 0xFFFE0001, no SRAM, after power-on"
+    pub fn bench() -> Sign {
+        let numbers = [1, 1, 1];
+        let geometry = Geometry::new(numbers).expect("a sign");
+        let blank = vec![!0; geometry.bank_words() as usize];
+        let old = with_sequence(&geometry, blank.clone(), 1);
+        Sign {
+            numbers,
+            geometry,
+            device: Device::reset_values(),
+            banks: [old.clone(), blank.clone()],
+            old,
+            new: blank.clone(),
+            image: blank,
+        }
+    }
+
+    /// Plays records. One that is refused changes nothing.
+    pub fn play(&mut self, records: &[Record]) {
+        let [one, two] = &mut self.banks;
+        let mut banks = Banks { one, two };
+        for record in records {
+            if let Ok((device, _)) = play_record(self.device, &mut banks, record) {
+                self.device = device;
+            }
+        }
     }
 
     /// A reset and a start-up; the bank that runs.

@@ -8,7 +8,7 @@ use model::sequence::word_of;
 
 use crate::run::{file, finish, run, spawn, Ran};
 
-const SCRIPT: &[u8] = include_bytes!("../../../crates/play/stdin");
+pub const SCRIPT: &[u8] = include_bytes!("../../../crates/play/stdin");
 
 fn play_input(script: &[u8]) -> Ran {
     finish(spawn(&["play", "-"]), script)
@@ -62,7 +62,7 @@ fn store(register: u8, form: u8, value: u32) -> Record {
 }
 
 /// Frees the upper boot alias, programs bank 2's sequence quad there, and resets.
-fn sequence_script(low: u16) -> Vec<u8> {
+pub fn sequence_script(low: u16) -> Vec<u8> {
     let keys = [0, 0xAA99_6655, 0x5566_99AA].map(|key| store(1, 0, key));
     let free = [&keys[..], &[store(9, 1, 0x1F)]].concat();
     let quad = [

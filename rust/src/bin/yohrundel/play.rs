@@ -1,13 +1,16 @@
 //! `yohrundel play`: what the play program prints.
 
 use std::fmt::Display;
+use std::io::{self, IsTerminal};
 
-use yohrundel::{play, play_length, Decline, Device, Geometry};
+use yohrundel::Decline;
 
 use crate::arguments::Arguments;
 use crate::command::Command;
 use crate::failure::{Answer, Failure};
 use crate::files;
+use crate::picture::{legend, picture};
+use crate::sign::Sign;
 
 pub const COMMAND: Command = Command {
     name: "play",
@@ -18,23 +21,14 @@ FILE is a service script of at most 65,536 bytes; - is standard input. It is
 played after power-on on two banks with Q = B = P = 1, blank but for bank 1's
 sequence number 1, and without SRAM. It prints a line for each record: its
 number from 0, the answer (0, or why it was refused), NVMCON, and 1 where there
-was an event, else 0.
+was an event, else 0. On a terminal a picture of both banks after the play
+follows.
 What is no script gets the line 14, a reason on standard error, and status 1.",
     run,
 };
 
 /// The longest script in bytes.
 const LONGEST: usize = 65_536;
-
-const GEOMETRY: Geometry = Geometry { q: 1, b: 1, p: 1 };
-
-/// "all ones but bank 1's sequence word 0xFFFE0001"
-fn banks() -> Result<[Vec<u32>; 2], Decline> {
-    let two = vec![!0; GEOMETRY.bank_words()?];
-    let mut one = two.clone();
-    one[GEOMETRY.sequence_index()?] = 0xFFFE_0001;
-    Ok([one, two])
-}
 
 fn run(mut arguments: Arguments) -> Answer {
     let path = arguments.required("FILE")?;
@@ -49,26 +43,21 @@ fn run(mut arguments: Arguments) -> Answer {
     }
 }
 
-/// What the play of a script prints.
+/// What the play of a script prints: as the play program, and for a terminal both banks after it.
 fn played(script: &[u8]) -> Result<Vec<u8>, Decline> {
-    let mut output = vec![0; length(script)?];
-    let [mut one, mut two] = banks()?;
-    let device = Device::power_on();
-    let (one, two) = (&mut one, &mut two);
-    play(GEOMETRY, device, one, two, &[], script, &mut output)?;
+    let mut sign = Sign::bench()?;
+    let mut output = sign.play(script)?;
+    if io::stdout().is_terminal() {
+        let (picture, legend) = (picture(&sign)?, legend());
+        output.extend(format!("\n{picture}\n{legend}").bytes());
+    }
     Ok(output)
-}
-
-/// The bytes that the play of a script prints.
-fn length(script: &[u8]) -> Result<usize, Decline> {
-    let [one, two] = banks()?;
-    play_length(GEOMETRY, Device::power_on(), &one, &two, &[], script)
 }
 
 /// The first record that is no script by itself.
 fn malformed(script: &[u8]) -> String {
-    let records = script.chunks(8);
-    let number = records.take_while(|record| length(record).is_ok()).count();
+    let plays = |record: &&[u8]| Sign::bench().and_then(|mut sign| sign.play(record)).is_ok();
+    let number = script.chunks(8).take_while(plays).count();
     format!("record {number}")
 }
 

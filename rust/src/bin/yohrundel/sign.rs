@@ -1,8 +1,9 @@
-//! A sign that is updated.
+//! A sign that is updated, or that a script is played on.
 
 use yohrundel::reset_kind::POWER_ON;
 use yohrundel::{
-    reset, start_up, turn_lent, update_start, Bank, Decline, Device, Geometry, TurnOutcome,
+    play, play_length, reset, start_up, turn_lent, update_start, Bank, Decline, Device, Geometry,
+    TurnOutcome,
 };
 
 use crate::progress::Progress;
@@ -15,7 +16,7 @@ pub struct Sign {
     pub geometry: Geometry,
     pub device: Device,
     pub banks: [Vec<u32>; 2],
-    /// The banks before the update.
+    /// The banks before the update or the play.
     old: [Vec<u32>; 2],
     /// The image with the new sequence quad.
     pub new: Vec<u32>,
@@ -39,11 +40,27 @@ impl Sign {
         Ok(sign)
     }
 
+    /// The bench of the service scripts: "all ones but bank 1's sequence word 0xFFFE0001", and no start-up. It has no image,
+    /// and a blank one stands for it.
+    pub fn bench() -> Result<Sign, Decline> {
+        let geometry = Geometry { q: 1, b: 1, p: 1 };
+        let blank = vec![!0; geometry.bank_words()?];
+        let banks = [with_quad(geometry, &blank, OLD_QUAD)?, blank.clone()];
+        Ok(Sign {
+            geometry,
+            device: Device::power_on(),
+            old: banks.clone(),
+            banks,
+            new: blank.clone(),
+            image: blank,
+        })
+    }
+
     pub fn bank(&self, bank: Bank) -> &[u32] {
         &self.banks[index(bank)]
     }
 
-    /// A bank as it was before the update.
+    /// A bank as it was before the update or the play.
     pub fn old_bank(&self, bank: Bank) -> &[u32] {
         &self.old[index(bank)]
     }
@@ -54,6 +71,16 @@ impl Sign {
         let device = reset(self.geometry, self.device, one, two, &[], kind, mask)?;
         self.device = start_up(self.geometry, device)?;
         Ok(())
+    }
+
+    /// Plays a script without SRAM; gives what is printed.
+    pub fn play(&mut self, script: &[u8]) -> Result<Vec<u8>, Decline> {
+        let (geometry, device) = (self.geometry, self.device);
+        let [one, two] = &mut self.banks;
+        let mut output = vec![0; play_length(geometry, device, one, two, &[], script)?];
+        let played = play(geometry, device, one, two, &[], script, &mut output)?;
+        self.device = played.device;
+        Ok(output)
     }
 
     /// The total of the update's actions, where it is accepted.
