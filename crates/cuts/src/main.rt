@@ -16,9 +16,11 @@
 // update. The turn of a place is done last, and leaves the state of the next place.
 mod cuts;
 mod output;
+mod signs;
+mod sums;
+mod updates;
 
-use cut_updates::signs::MOST_WORDS;
-use cut_updates::signs::numbered;
+use signs::MOST_WORDS;
 
 // Lends the arrays as slices. In main itself their lengths would have to be counted out element by element.
 fn run(
@@ -30,7 +32,7 @@ fn run(
 ) {
     let mut number = 0;
     while number < 4 {
-        cuts::cut_sign(numbered(number), one, two, image, first, second);
+        cuts::cut_sign(signs::numbered(number), one, two, image, first, second);
         number += 1;
     }
 }

@@ -1,5 +1,5 @@
 // Numbers on standard output.
-use cut_updates::sums::Sums;
+use crate::sums::Sums;
 use libc::STDOUT_FILENO;
 
 // The first number of a line.

@@ -1,8 +1,8 @@
 -- The invariant: no register is past the last. The measure is the registers that are left.
 use Prim.Native.Nat.{_≤_, _-_}
 use borrow.Author.Needs.{needs}
-use Rattle.cut_updates.proofs.sums.with_device.Statement.{statement}
-use Rattle.cut_updates.proofs.sums.with_device.Tie as tie
+use Rattle.cuts.proofs.sums.with_device.Statement.{statement}
+use Rattle.cuts.proofs.sums.with_device.Tie as tie
 
 abbrev Inv-loop : tie.InvT-loop
 Inv-loop sum d longer₀ number₀ longer number = number ≤ 11

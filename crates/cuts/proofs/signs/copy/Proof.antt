@@ -4,8 +4,8 @@ use mathlib.Core.Path.{_≡_}
 use native.Mathlib.Omega.{arith}
 use borrow.Author.Needs.{needs}
 use lib.ListN.{length, length-set}
-use Rattle.cut_updates.proofs.signs.copy.Statement.{statement}
-use Rattle.cut_updates.proofs.signs.copy.Tie as tie
+use Rattle.cuts.proofs.signs.copy.Statement.{statement}
+use Rattle.cuts.proofs.signs.copy.Tie as tie
 
 abbrev Inv-loop : tie.InvT-loop
 Inv-loop from to₀ i₀ to i = (i ≤ length to) × (length to ≡ length to₀)

@@ -4,8 +4,8 @@ use Prim.Native.Nat.{_≤_, _-_}
 use mathlib.Core.Path.{_≡_}
 use native.Mathlib.Omega.{arith}
 use lib.ListN.{length}
-use Rattle.cut_updates.proofs.updates.run_whole.Statement.{statement}
-use Rattle.cut_updates.proofs.updates.run_whole.Tie as tie
+use Rattle.cuts.proofs.updates.run_whole.Statement.{statement}
+use Rattle.cuts.proofs.updates.run_whole.Tie as tie
 
 abbrev Inv-loop : tie.InvT-loop
 Inv-loop g one₀ two₀ image total ended₀ turns₀ one two ended turns =

@@ -2,8 +2,8 @@
 use Prim.Native.Nat.{_≤_, _-_}
 use borrow.Author.Needs.{needs}
 use lib.ListN.{length}
-use Rattle.cut_updates.proofs.sums.with_words.Statement.{statement}
-use Rattle.cut_updates.proofs.sums.with_words.Tie as tie
+use Rattle.cuts.proofs.sums.with_words.Statement.{statement}
+use Rattle.cuts.proofs.sums.with_words.Tie as tie
 
 abbrev Inv-loop : tie.InvT-loop
 Inv-loop sum words longer₀ i₀ longer i = i ≤ length words

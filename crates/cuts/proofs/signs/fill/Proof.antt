@@ -4,8 +4,8 @@ use mathlib.Core.Path.{_≡_}
 use native.Mathlib.Omega.{arith}
 use borrow.Author.Needs.{needs}
 use lib.ListN.{length, length-set}
-use Rattle.cut_updates.proofs.signs.fill.Statement.{statement}
-use Rattle.cut_updates.proofs.signs.fill.Tie as tie
+use Rattle.cuts.proofs.signs.fill.Statement.{statement}
+use Rattle.cuts.proofs.signs.fill.Tie as tie
 
 abbrev Inv-loop : tie.InvT-loop
 Inv-loop words₀ seed i₀ words i = (i ≤ length words) × (length words ≡ length words₀)
