@@ -1,5 +1,6 @@
 // The calls by their names, and what each takes.
 ghost use Prim.Native.Nat.{_≤_};
+ghost use Rattle.conformance_calls.specs.Names.{Named};
 use conformance_cases::cases::Shape;
 use conformance_lists::bytes::same;
 
@@ -28,7 +29,9 @@ fn taking(front: usize, lists: usize, back: usize) -> Shape
 }
 
 impl Call {
-    pub fn of(name: &[u8]) -> Call {
+    pub fn of(name: &[u8]) -> Call
+        ensures { λ r. ⌜ Named (now (name .entry)) r ⌝ }
+    {
         if same(name, b"compare") {
             return Call::Compare;
         }

@@ -1,5 +1,7 @@
 // The inputs of a call: numbers, lent lists, and numbers again.
 // What asks for a shape is no call of the device: its callers show it.
+ghost use mathlib.Core.Path.{_≡_};
+ghost use mathlib.Core.Bool.{_&&_};
 ghost use Prim.Native.Nat.{_≤_};
 ghost use Rattle.conformance_cases.specs.Cases.{Parted, Read};
 use conformance_lists::lists::take_list_if;
@@ -50,8 +52,16 @@ fn take_rest(lists: usize, line: &[u8], at: usize, spare: &mut [u32], most: usiz
     }
 }
 
-pub fn all(first: bool, second: bool, third: bool) -> bool {
-    first && second && third
+pub fn all(first: bool, second: bool, third: bool) -> bool
+    ensures { λ r. ⌜ r ≡ (first && (second && third)) ⌝ }
+{
+    if !first {
+        return false;
+    }
+    if !second {
+        return false;
+    }
+    third
 }
 
 // The inputs from a position to the line's end.

@@ -1,21 +1,26 @@
 // Lists of bytes. In a lent buffer they stand a byte to a word; for a call they are copied to bytes.
 // What asks for room or for lists of such lengths is no call of the device: its callers show it.
-ghost use Prim.Native.Nat.{_≤_};
+ghost use mathlib.Core.Path.{_≡_};
+ghost use Prim.Native.Nat.{_%_, _≤_};
 ghost use lib.ListN.{length};
 ghost use Rattle.conformance_io.specs.Output.{Used};
+ghost use Rattle.conformance_requests.specs.ByteLists.{Copied};
 use conformance_io::output::put_next;
 
 // The longest list of bytes that can be lent.
 pub const LONGEST: usize = 65536;
 
 // A word of such a list as a byte: no word is above 255, and nothing is cut off.
-fn byte_of(word: u32) -> u8 {
+fn byte_of(word: u32) -> u8
+    ensures { λ r. ⌜ r ≡ word % 256 ⌝ }
+{
     (word % 256) as u8
 }
 
 // Copies a list to the front of the bytes.
 pub fn copy(words: &[u32], bytes: &mut [u8])
     requires { ⌜ length (now words) ≤ length (now bytes) ⌝ }
+    ensures { λ _. ⌜ Copied (now (words .entry)) (now (bytes .entry)) (now (bytes .exit)) (length (now (words .entry))) ⌝ }
 {
     let mut i = 0;
     while i < words.len() {

@@ -1,4 +1,6 @@
 // The requests' calls by their names.
+ghost use mathlib.Core.Path.{_≡_};
+ghost use Rattle.conformance_requests.specs.Names.{isKnownOf, Named};
 use conformance_lists::bytes::same;
 
 pub enum Request {
@@ -10,7 +12,9 @@ pub enum Request {
 }
 
 impl Request {
-    pub fn of(name: &[u8]) -> Request {
+    pub fn of(name: &[u8]) -> Request
+        ensures { λ r. ⌜ Named (now (name .entry)) r ⌝ }
+    {
         if same(name, b"plan") {
             return Request::Plan;
         }
@@ -27,10 +31,15 @@ impl Request {
     }
 
     // Whether a request's call has the name.
-    pub fn is_known(self) -> bool {
+    pub fn is_known(self) -> bool
+        ensures { λ r. ⌜ r ≡ isKnownOf self ⌝ }
+    {
         match self {
+            Request::Plan => true,
+            Request::LanesOut => true,
+            Request::LanesBack => true,
+            Request::PageSheet => true,
             Request::Unknown => false,
-            _ => true,
         }
     }
 }
