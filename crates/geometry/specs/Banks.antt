@@ -4,6 +4,7 @@ use mathlib.Core.Path.{_≡_}
 use mathlib.Core.Bool.{Bool, false, _&&_, _||_}
 use mathlib.Core.List.{List, [], _∷_}
 use lib.Dec.{eqb, leb}
+use lib.ListN.{take, drop}
 use Rattle.geometry.specs.declared.banks.Geometry.{Geometry}
 
 abbrev pub oneOf : List ℕ → ℕ → Bool
@@ -76,6 +77,10 @@ programBytesOf g = g .p * pageBytesOf g
 -- "A bank is lent as N×32×Q words."
 abbrev pub bankWordsOf : Geometry → ℕ
 bankWordsOf g = pagesOf g * pageWordsOf g
+
+-- page n of a bank: 32×Q words from word n×32×Q on
+abbrev pub pageAt : Geometry → List ℕ → ℕ → List ℕ
+pageAt g bank n = take (pageWordsOf g) (drop (n * pageWordsOf g) bank)
 
 -- "rounded down to 16, 16×Q or 128×Q bytes"
 abbrev pub roundDownOf : ℕ → ℕ → ℕ

@@ -4,7 +4,7 @@ pub mod ChangeLaws
 pub mod DeviceLaws
 pub mod ProtectionLaws
 pub mod WriteLaws
-pub mod ProtectedWordLaws
+pub mod ProtectedPageLaws
 pub mod MachineLaws
 pub mod RestLaws
 pub mod StartUpLaws

@@ -7,7 +7,7 @@ use Rattle.machine.specs.Machine.{Controller}
 use Rattle.machine.proofs.DeviceLaws.{power-on-possible}
 use Rattle.machine.specs.Machine.Operation.{step, reset}
 use Rattle.machine.proofs.WriteLaws.{writes-one-quad, one-quad}
-use Rattle.machine.proofs.ProtectedWordLaws.{protected-kept}
+use Rattle.machine.proofs.ProtectedPageLaws.{keeps}
 use Rattle.machine.proofs.MachineLaws.{run-sound, declined-same, compared}
 use Rattle.machine.proofs.StartUpLaws.{start-up-runs, start-up-accepted, start-up-sound, start-up-cut}
 
@@ -21,7 +21,7 @@ controller =
       masked = λ g s h r l. all-below (λ r. withinOf r (registerOf (s .device) r)) 11 (and-both (implementedOf (s .device)) _ (h .possible) .0) r l;
       one-quad = λ g s sram. one-quad g s _ (writes-one-quad g s (step sram));
       one-quad-torn = λ g s sram kind mask. one-quad g s _ (writes-one-quad g s (reset sram kind mask));
-      protected-kept = protected-kept;
+      keeps = keeps;
       compared = compared;
       start-up-runs = start-up-runs;
       start-up-accepted = start-up-accepted;

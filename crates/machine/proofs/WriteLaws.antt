@@ -4,7 +4,7 @@
 use mathlib.Core.Path.{_≡_, refl, sym, ap, _∙_}
 use mathlib.Core.Bool.{Bool, true, false, not, _&&_}
 use mathlib.Core.List.{List, []}
-use Prim.Native.Nat.{ℕ, _-_}
+use Prim.Native.Nat.{ℕ}
 use lib.ListN.{length}
 use Rattle.words.specs.Word.{pick}
 use Rattle.words.specs.Quad.{wordAt}
@@ -113,8 +113,12 @@ writes-one-quad g s (reset sram kind mask) =
     record {
       writes = running d && e .writes;
       words = torn;
-      first = torn-first (s .one) (running d) (e .writes) (e .second) (e .quad) torn ∙ rw (effect-second g d (s .one) (s .two) sram, effect-quad g d (s .one) (s .two) sram);
-      other = torn-other (s .two) (running d) (e .writes) (e .second) (e .quad) torn ∙ rw (effect-second g d (s .one) (s .two) sram, effect-quad g d (s .one) (s .two) sram);
+      first =
+          torn-first (s .one) (running d) (e .writes) (e .second) (e .quad) torn
+          ∙ rw (effect-second g d (s .one) (s .two) sram, effect-quad g d (s .one) (s .two) sram);
+      other =
+          torn-other (s .two) (running d) (e .writes) (e .second) (e .quad) torn
+          ∙ rw (effect-second g d (s .one) (s .two) sram, effect-quad g d (s .one) (s .two) sram);
       allowed = λ w.
           let (on, writes) = and-both (running d) (e .writes) w in
           let run = runs g d (ready .lent .range) (ready .possible) on in
@@ -155,6 +159,10 @@ module _ (g : Geometry) (s t : State) (w : Writes g s t) where
 
   pub other-length : length (t .two) ≡ length (s .two)
   other-length = ap length (w .other) ∙ two-length (s .two) (w .writes) (stepSecondOf g s) (stepQuadOf g s) (w .words)
+
+  pub bank-length : (second : Bool) → length (bankOf t second) ≡ length (bankOf s second)
+  bank-length true = other-length
+  bank-length false = first-length
 
   pub one-quad : OneQuad g s t
   one-quad =

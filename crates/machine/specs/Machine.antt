@@ -10,7 +10,7 @@ use Rattle.words.specs.Word.{pick}
 use Rattle.words.specs.Quad.{wordAt}
 use Rattle.geometry.specs.declared.banks.Geometry.{Geometry}
 use Rattle.words.specs.declared.decline.Decline.{Decline}
-use Rattle.geometry.specs.Banks.{bankWordsOf}
+use Rattle.geometry.specs.Banks.{bankWordsOf, pageAt}
 use Rattle.words.specs.Decline.{acceptedOf}
 use Rattle.map.specs.Windows.{quadIndexOf}
 use Rattle.device.specs.declared.record.Device.{Device}
@@ -23,7 +23,7 @@ use Rattle.flash.specs.Effect.{stepLocationOf}
 use Rattle.flash.specs.Step.{After, stepOf}
 use Rattle.resets.specs.Reset.{comparedOf, resetOf}
 use Rattle.reads.specs.Read.{secondAtOf, flashReadOf}
-use Rattle.machine.specs.Protection.{protectedWordOf}
+use Rattle.machine.specs.Protection.{protectedPageOf}
 
 -- a store of a form and a value to a register; a register read; a flash read; a step and a reset with their SRAM, a reset also with its
 -- kind and its mask
@@ -116,6 +116,12 @@ pub record OneQuad (g : Geometry) (s t : State) : Type 0 where
   -- the bank in which it stands keeps every word outside the quad
   pub outside : (v : ℕ) → Outside (stepQuadOf g s) v → wordAt (bankOf t (stepSecondOf g s)) v ≡ wordAt (bankOf s (stepSecondOf g s)) v
 
+-- from s to t no bank changes its length, and no page of either bank that is protected in s changes
+pub record Keeps (g : Geometry) (s t : State) : Type 0 where
+  pub long : (second : Bool) → length (bankOf t second) ≡ length (bankOf s second)
+  pub page : (second : Bool) (n : ℕ) → protectedPageOf g (s .device) second n ≡ true
+      → pageAt g (bankOf t second) n ≡ pageAt g (bankOf s second) n
+
 -- what holds of the controller
 pub record Controller : Type 1 where
   -- ---- every operation and every list of them
@@ -131,9 +137,8 @@ pub record Controller : Type 1 where
   -- a step and a tear change at most the one quad of the step
   pub one-quad : (g : Geometry) (s : State) (sram : List ℕ) → OneQuad g s (transitionOf g s (step sram))
   pub one-quad-torn : (g : Geometry) (s : State) (sram : List ℕ) (kind : ℕ) (mask : List ℕ) → OneQuad g s (transitionOf g s (reset sram kind mask))
-  -- no operation changes a word of either bank that lies in a page protected at that time
-  pub protected-kept : (g : Geometry) (s : State) (o : Operation) (second : Bool) (v : ℕ) → protectedWordOf g (s .device) second v ≡ true
-      → wordAt (bankOf (transitionOf g s o) second) v ≡ wordAt (bankOf s second) v
+  -- no operation changes a page that is protected at that time, nor the length of a bank
+  pub keeps : (g : Geometry) (s : State) (o : Operation) → Keeps g s (transitionOf g s o)
   -- ---- reset and start-up
   -- after a reset BFSWAP is the comparison of what the banks then hold
   pub compared : (g : Geometry) (s : State) (sram : List ℕ) (kind : ℕ) (mask : List ℕ) → acceptedOf (answerOf g s (reset sram kind mask)) ≡ true

@@ -5,11 +5,11 @@ use mathlib.Core.Bool.{true}
 use mathlib.Core.List.{List, [], _∷_}
 use denote.Ref.{RefT}
 use lib.Dec.{ltb}
-use lib.ListN.{length, take, drop}
+use lib.ListN.{length}
 use Rattle.words.specs.Word.{pick}
 use Rattle.geometry.specs.declared.banks.Geometry.{Geometry}
 use Rattle.words.specs.declared.decline.Decline.{Decline}
-use Rattle.geometry.specs.Banks.{pagesOf, pageWordsOf}
+use Rattle.geometry.specs.Banks.{pagesOf, pageWordsOf, pageAt}
 use Rattle.words.specs.Decline.{acceptedOf, firstOf}
 use Rattle.geometry.specs.Lent.{lentDeclineOf}
 use Rattle.device.specs.declared.record.Device.{Device}
@@ -43,7 +43,7 @@ pageDeclineOf g words page = firstOf (lentDeclineOf g (words ∷ []) 0) (pick (l
 unfoldable pub pagePartOf : Geometry → List ℕ → ℕ → List ℕ
 pagePartOf g bank page =
     pick (acceptedOf (pageDeclineOf g (length bank) page))
-    (take (pageWordsOf g) (drop (page * pageWordsOf g) bank))
+    (pageAt g bank page)
     []
 
 -- "as that part of the bank": from the byte where the page starts in the lent bank, and not a copy

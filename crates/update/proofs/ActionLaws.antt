@@ -52,11 +52,11 @@ module _ {A : Type 0} where
     blocks-at n p d pos h = rw (div-add-mod' p len) at (getD-blocks n (p / len) (p % len) d (div-lt-iff-lt-mul pos .1 h) (mod-lt p pos))
 
 -- ---- a page's actions, and a quad's
-page-length : (g : Geometry) (page : ℕ) → length (pageBlock g page) ≡ pageActions g
+pub page-length : (g : Geometry) (page : ℕ) → length (pageBlock g page) ≡ pageActions g
 page-length g page = simp (length-append, length-replicate) (omega arith)
 
 -- action k of the list is that by comparison
-page-listed : (g : Geometry) (page k : ℕ) → k < pageActions g → getD (pageBlock g page) k Step ≡ pageActionOf g page k
+pub page-listed : (g : Geometry) (page k : ℕ) → k < pageActions g → getD (pageBlock g page) k Step ≡ pageActionOf g page k
 unfolding pageActionOf
 page-listed g page k l =
     pick-below k 7 (λ (m : k < 7). List·getD-append stores rest Step k m)

@@ -77,7 +77,7 @@ new-four : (g : Geometry) (image : List ℕ) (w j : ℕ) → Four (newQuadOf g i
 unfolding newQuadOf nextSequenceOf
 new-four g image w j = pick-both (λ (quad : List ℕ). quadAt quad 0 ≡ quad) (eqb j (sequenceQuadOf g)) refl refl
 
-new-sequence : (g : Geometry) (image : List ℕ) (w : ℕ) → newQuadOf g image w (sequenceQuadOf g) ≡ nextSequenceOf w
+pub new-sequence : (g : Geometry) (image : List ℕ) (w : ℕ) → newQuadOf g image w (sequenceQuadOf g) ≡ nextSequenceOf w
 unfolding newQuadOf
 new-sequence g image w = rw (eq-eqb (sequenceQuadOf g) (sequenceQuadOf g) refl)
 

@@ -6,13 +6,12 @@ use mathlib.Core.List.{List, [], _∷_}
 use Prim.Native.Nat.{ℕ, zero, suc, _^_, _≤_, _<_}
 use native.Mathlib.Omega.{arith}
 use lib.Dec.{lit<}
-use lib.ListN.{length, replicate, set, length-replicate}
+use lib.ListN.{length, getD, replicate, set, length-replicate}
 use Rattle.words.specs.Word.{allOnes}
 use Rattle.geometry.specs.Banks.{bankWordsOf}
 use Rattle.sequence.specs.Sequence.{sequenceIndexOf, complementOf, sequenceWordOf, nextSequenceOf}
-use Rattle.machine.specs.Machine.{bankOf}
 use Rattle.update.specs.Actions.{totalOf}
-use Rattle.update.specs.PowerFail.{at, afterTurns, placeAfter, NoneDeclined, ShortSrams, Cut, restarted, Runs, newBankOf, Words, Update}
+use Rattle.update.specs.PowerFail.{afterTurns, placeAfter, Cut, restarted, Runs, newBankOf, Words, Update}
 use Rattle.update.specs.Bench.{smallest, benchBank}
 use Rattle.update.specs.Example.{exampleState, exampleImage, emptySrams, Example}
 use Rattle.update.proofs.PowerFail.{power-fail}
@@ -32,7 +31,9 @@ words-set (x ∷ l) (suc i) a h words zero = words zero
 words-set (x ∷ l) (suc i) a h words (suc v) = words-set l i a h (λ u. words (suc u)) v
 
 words-bank : (word : ℕ) → word < 2 ^ 32 → Words (benchBank word)
-words-bank word h = words-set (replicate (bankWordsOf smallest) allOnes) (sequenceIndexOf smallest) word h (words-replicate (bankWordsOf smallest) allOnes (lit< tt))
+words-bank word h =
+    let words = bankWordsOf smallest in
+    words-set (replicate words allOnes) (sequenceIndexOf smallest) word h (words-replicate words allOnes (lit< tt))
 
 pub example-update : Update smallest exampleState exampleImage
 example-update =
@@ -44,28 +45,29 @@ example-update =
       quad = refl;
     }
 
-empty-short : (n : ℕ) → ShortSrams (emptySrams n)
-empty-short zero = tt
-empty-short (suc n) = (omega arith, empty-short n)
+-- its 252 turns
+total-is : totalOf smallest ≡ 252
+total-is = bench .total-small smallest refl refl
 
-pub example-runs : NoneDeclined smallest exampleImage (at exampleState 0) (emptySrams 252) × (placeAfter smallest exampleState exampleImage (emptySrams 252) ≡ 252)
-example-runs =
-    let total : totalOf smallest ≡ 252 = bench .total-small smallest refl refl in
-    rw total at (power-fail .runs smallest exampleState exampleImage example-update (emptySrams 252) (empty-short 252) (rw (length-replicate, total)))
+empty-short : (n i : ℕ) → length (getD (emptySrams n) i []) ≤ 16384
+empty-short zero i = omega arith
+empty-short (suc n) zero = omega arith
+empty-short (suc n) (suc i) = empty-short n i
+
+reached : placeAfter smallest exampleState exampleImage (emptySrams 252) ≡ totalOf smallest
+reached = power-fail smallest exampleImage .reaches exampleState example-update (emptySrams 252) (empty-short 252) (rw (length-replicate, total-is))
 
 -- the new bank, by computation
 new-bank : newBankOf smallest exampleState exampleImage ≡ benchBank 0xFFFD_0002
 unfolding nextSequenceOf sequenceWordOf complementOf
 new-bank = refl
 
-example-complete : (c : Cut) → length (c .sram) ≤ 16384 → c .kind ≤ 2
-    → let t = restarted smallest (afterTurns smallest exampleState exampleImage (emptySrams 252)) c in
-    Runs t true × (bankOf t true ≡ benchBank 0xFFFD_0002)
-example-complete c short kind =
-    let total : totalOf smallest ≡ 252 = bench .total-small smallest refl refl in
-    let restarts = power-fail .restarts smallest exampleState exampleImage example-update (emptySrams 252) c short kind in
-    let runs = power-fail .complete smallest exampleState exampleImage example-update (emptySrams 252) (rw total (example-runs .1)) c restarts in
+new-runs : (c : Cut) → length (c .sram) ≤ 16384 → c .kind ≤ 2
+    → Runs (restarted smallest (afterTurns smallest exampleState exampleImage (emptySrams 252)) c) true (benchBank 0xFFFD_0002)
+new-runs c short kind =
+    let claims = power-fail smallest exampleImage .claims exampleState example-update (emptySrams 252) (emptySrams 252) reached in
+    let runs = claims .new-runs c (claims .restarts c short kind .0) in
     (runs .0, runs .1 ∙ new-bank)
 
 pub example : Example
-example = record { update = example-update; none-declined = example-runs .0; reaches = example-runs .1; complete = example-complete }
+example = record { update = example-update; reaches = reached ∙ total-is; new-runs = new-runs }

@@ -8,10 +8,8 @@ use Prim.Native.Nat.{ℕ, zero, suc, _+_, _-_, _/_, _%_, _≤_, _<_}
 use native.Mathlib.Omega.{arith}
 use lib.Dec.{ltb}
 use lib.ListN.{length, getD}
-use Rattle.words.specs.Word.{pick}
 use Rattle.words.proofs.PickLaws.{pick-both}
 use Rattle.geometry.specs.declared.banks.Geometry.{Geometry}
-use Rattle.words.specs.declared.decline.Decline.{Decline}
 use Rattle.geometry.specs.Banks.{inRangeOf, InRange, pageQuadsOf, bankWordsOf}
 use Rattle.device.specs.declared.record.Device.{Device}
 use Rattle.device.specs.Record.{running}
@@ -21,7 +19,7 @@ use Rattle.access.specs.Store.{hasFormOf}
 use Rattle.flash.specs.Effect.{effectOf}
 use Rattle.flash.specs.Step.{stepDeclineOf, stepAcceptedOf, stepOf}
 use Rattle.update.specs.declared.actions.Action.{Action}
-use Rattle.update.specs.declared.actions.Action.the-variants.{Store, Step}
+use Rattle.update.specs.declared.actions.Action.the-variants.{Step}
 use Rattle.update.specs.Actions.{stored, prologue, pageStores, quadBlock, pageActionOf, quadActionOf, erasedPageOf, programmedQuadOf, newQuadOf, pageActions, programmingFrom, actionAtOf, totalOf}
 use Rattle.update.specs.Turn.{Formed}
 
@@ -61,8 +59,9 @@ pub total-high : (g : Geometry) → InRange g → totalOf g < 1000000
 unfolding totalOf
 total-high g ok = omega (arith, ok .boot-high, ok .program-high, ok .b-high, ok .p-high)
 
-pub step-carried : (g : Geometry) (d : Device) (one two sram : List ℕ) → inRangeOf g ≡ true → possibleOf g d ≡ true → (length one ≡ bankWordsOf g) × (length two ≡ bankWordsOf g)
-    → length sram ≤ 16384 → running d ≡ true → stepOf g d one two sram ≡ stepAcceptedOf g d one two (effectOf g d one two sram)
+pub step-carried : (g : Geometry) (d : Device) (one two sram : List ℕ) → inRangeOf g ≡ true → possibleOf g d ≡ true
+    → (length one ≡ bankWordsOf g) × (length two ≡ bankWordsOf g) → length sram ≤ 16384 → running d ≡ true
+    → stepOf g d one two sram ≡ stepAcceptedOf g d one two (effectOf g d one two sram)
 unfolding stepOf stepDeclineOf
 step-carried g d one two sram listed can (first, other) short on =
     rw (opens g d (length one ∷ length two ∷ []) (length sram) listed (first, (other, tt)) short can, on)

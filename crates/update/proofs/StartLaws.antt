@@ -6,7 +6,7 @@ use mathlib.Core.List.{List, [], _∷_}
 use Prim.Native.Nat.{ℕ, _<_}
 use native.Mathlib.Nat.{mul-le-mul}
 use native.Mathlib.Omega.{arith}
-use lib.Dec.{ltb}
+use lib.Dec.{eqb, ltb}
 use lib.ListN.{length}
 use borrow.Author.Tests.{ltb-true, lt-ltb, not-true}
 use Rattle.words.specs.Word.{pick, hasOf}
@@ -16,7 +16,7 @@ use Rattle.geometry.specs.declared.banks.Geometry.{Geometry}
 use Rattle.words.specs.declared.decline.Decline.{Decline}
 use Rattle.geometry.specs.Banks.{inRangeOf, InRange, programBytesOf, bankWordsOf}
 use Rattle.words.specs.Decline.{acceptedOf}
-use Rattle.sequence.specs.Sequence.{sequenceIndexOf, validOf}
+use Rattle.sequence.specs.Sequence.{sequenceIndexOf, tseqOf, validOf}
 use Rattle.words.proofs.DeclineLaws.{held, passed, neither}
 use Rattle.geometry.proofs.SizeLaws.{in-range}
 use Rattle.device.specs.declared.record.Device.{Device}
@@ -27,13 +27,17 @@ use Rattle.opening.specs.Opening.{openingOf}
 use Rattle.opening.proofs.OpeningLaws.{ready, opens}
 use Rattle.reads.specs.Read.{same}
 use Rattle.resets.specs.Reset.{comparedOf}
-use Rattle.machine.specs.Machine.{State, state, bankOf, Sound}
-use Rattle.update.specs.Start.{lowerWordOf, otherWordOf, clashOf, lowerValidOf, resetKeepsOf, swapsAgreeOf, otherSafeOf, sequenceAllowsOf, nextExistsOf, upperFreeOf, startDeclineOf, startOf}
+use Rattle.machine.specs.Machine.{State, bankOf, Sound}
+use Rattle.update.specs.Actions.{totalOf}
+use Rattle.update.specs.Start.{lowerWordOf, otherWordOf, clashOf, lowerValidOf, resetKeepsOf, swapsAgreeOf, otherSafeOf, sequenceAllowsOf}
+use Rattle.update.specs.Start.{nextExistsOf, upperFreeOf, startDeclineOf, startOf}
 use Rattle.update.specs.PowerFail.{Words, at, Update}
 use Rattle.update.proofs.WordLaws.{chosenOf}
 use Rattle.update.proofs.RestartLaws.{Started}
-use Rattle.update.proofs.Phases.{placed, Fixed, Losing, Stands}
-use Rattle.update.proofs.Phases.Phase.{in-clearing}
+use Rattle.update.proofs.PlacedLaws.{placed, replaced, both-placed, either-placed, compared-placed, lower-placed, other-placed}
+use Rattle.update.proofs.Blocks.{Fixed, Begins, Losing, Stands}
+use Rattle.update.proofs.Blocks.Block.{prologue}
+use Rattle.update.proofs.PhaseLaws.{enters}
 
 -- two truth values that are the same
 same-true : (a c : Bool) → same a c ≡ true → a ≡ c
@@ -47,18 +51,18 @@ same-self a true e = rw e
 same-self a false e = rw e
 
 -- what an accepted start tells
-record Starts (g : Geometry) (s : State) (image : List ℕ) : Type 0 where
-  listed : inRangeOf g ≡ true
-  sound : Sound g s
-  image-long : length image ≡ bankWordsOf g
-  idle : running (s .device) ≡ false
-  valid : lowerValidOf g s ≡ true
-  keeps : comparedOf g (s .one) (s .two) ≡ bfswap (s .device)
-  agree : pfswap (s .device) ≡ bfswap (s .device)
-  safe : otherSafeOf g s ≡ true
-  more : nextExistsOf g s ≡ true
-  lock : hasOf (s .device .nvmbwp .0) UBWPULOCK ≡ true
-  reach : pwpOf (s .device) < programBytesOf g
+pub record Starts (g : Geometry) (s : State) (image : List ℕ) : Type 0 where
+  pub listed : inRangeOf g ≡ true
+  pub sound : Sound g s
+  pub image-long : length image ≡ bankWordsOf g
+  pub idle : running (s .device) ≡ false
+  pub valid : lowerValidOf g s ≡ true
+  pub keeps : comparedOf g (s .one) (s .two) ≡ bfswap (s .device)
+  pub agree : pfswap (s .device) ≡ bfswap (s .device)
+  pub safe : otherSafeOf g s ≡ true
+  pub more : nextExistsOf g s ≡ true
+  pub lock : hasOf (s .device .nvmbwp .0) UBWPULOCK ≡ true
+  pub reach : pwpOf (s .device) < programBytesOf g
 
 starts : (g : Geometry) (s : State) (image : List ℕ) → acceptedOf (startOf g s image .decline) ≡ true → Starts g s image
 unfolding startOf startDeclineOf sequenceAllowsOf upperFreeOf
@@ -87,61 +91,62 @@ starts g s image h =
       reach = ltb-true _ _ (u .1);
     }
 
--- a state by its device and its two banks
-pub replaced : (t : Bool) (s : State) → s ≡ placed t (s .device) (bankOf s t) (bankOf s (not t))
-replaced true s = refl
-replaced false s = refl
-
-compared-placed : (g : Geometry) (t : Bool) (s : State)
-    → comparedOf g (s .one) (s .two) ≡ chosenOf t (wordAt (bankOf s t) (sequenceIndexOf g)) (wordAt (bankOf s (not t)) (sequenceIndexOf g))
-compared-placed g true s = refl
-compared-placed g false s = refl
-
-bank-words : (t : Bool) (s : State) → Words (s .one) → Words (s .two) → Words (bankOf s t)
-bank-words true s one two = two
-bank-words false s one two = one
-
 module _ (g : Geometry) (s : State) (image : List ℕ) (update : Update g s image) (b : Bool) (boot : bfswap (s .device) ≡ b) where
-  facts : Starts g s image
+  pub facts : Starts g s image
   facts = starts g s image (update .accepted)
 
+  -- its words, by which bank is old
   lower : lowerWordOf g s ≡ wordAt (bankOf s b) (sequenceIndexOf g)
-  lower = rw boot
+  lower = ap (lowerWordOf g) (replaced b s) ∙ lower-placed b (s .device) (bankOf s b) (bankOf s (not b)) g boot
 
   other : otherWordOf g s ≡ wordAt (bankOf s (not b)) (sequenceIndexOf g)
-  other = rw boot (go b)
-    where
-      go : (t : Bool) → wordAt (pick t (s .one) (s .two)) (sequenceIndexOf g) ≡ wordAt (bankOf s (not t)) (sequenceIndexOf g)
-      go true = refl
-      go false = refl
+  other = ap (otherWordOf g) (replaced b s) ∙ other-placed b (s .device) (bankOf s b) (bankOf s (not b)) g boot
 
-  pub start-fixed : Fixed g image (bankOf s b)
-  start-fixed =
+  compared : comparedOf g (s .one) (s .two) ≡ chosenOf b (wordAt (bankOf s b) (sequenceIndexOf g)) (wordAt (bankOf s (not b)) (sequenceIndexOf g))
+  compared = ap (λ (t : State). comparedOf g (t .one) (t .two)) (replaced b s) ∙ compared-placed b (s .device) (bankOf s b) (bankOf s (not b)) g
+
+  pub lower-valid : validOf (wordAt (bankOf s b) (sequenceIndexOf g)) ≡ true
+  lower-valid = rw lower at (facts .valid)
+
+  pub lower-more : eqb (tseqOf (wordAt (bankOf s b) (sequenceIndexOf g))) 65535 ≡ false
+  lower-more = not-true _ (rw lower at (facts .more))
+
+  -- what stays through it
+  abbrev pub startFixed : Fixed
+  startFixed =
       record {
+        g = g;
+        image = image;
+        b = b;
+        old = bankOf s b;
         listed = facts .listed;
-        old-long = long b;
         image-long = facts .image-long;
-        valid = rw lower at (facts .valid);
-        more = not-true _ (rw lower at (facts .more));
         image-words = update .new-words;
+        old-long = either-placed (λ (l : List ℕ). length l ≡ bankWordsOf g) b s (facts .sound .first) (facts .sound .other);
+        old-words = either-placed Words b s (update .one-words) (update .two-words);
+        valid = lower-valid;
+        more = lower-more;
       }
-    where
-      long : (t : Bool) → length (bankOf s t) ≡ bankWordsOf g
-      long true = facts .sound .other
-      long false = facts .sound .first
 
-  start-losing : Losing g image b (bankOf s b) (bankOf s (not b))
+  start-begins : Begins startFixed (s .device)
+  start-begins =
+      record {
+        rest = record { listed = facts .listed; range = in-range g (facts .listed); possible = facts .sound .possible; idle = facts .idle };
+        boot = boot;
+        program = facts .agree ∙ boot;
+        lock = facts .lock;
+        reach = facts .reach;
+        quad = update .quad;
+      }
+
+  start-losing : Losing startFixed (bankOf s (not b))
   start-losing =
       record {
-        words = bank-words (not b) s (update .one-words) (update .two-words);
-        loses =
-            record {
-              chosen = sym (compared-placed g b s) ∙ facts .keeps ∙ boot;
-              safe = rw other at (facts .safe);
-            };
+        words = either-placed Words (not b) s (update .one-words) (update .two-words);
+        loses = record { chosen = sym compared ∙ facts .keeps ∙ boot; safe = rw other at (facts .safe) };
       }
 
-  pub start-stands : Stands g image b (bankOf s b) (at s 0)
+  pub start-stands : Stands startFixed (at s 0)
   start-stands =
       record {
         device = s .device;
@@ -149,87 +154,52 @@ module _ (g : Geometry) (s : State) (image : List ℕ) (update : Update g s imag
         state = replaced b s;
         sound = facts .sound;
         quad = update .quad;
-        phase =
-            in-clearing
-            (record {
-              first = s .device;
-              begins =
-                  record {
-                    rest = record { listed = facts .listed; range = in-range g (facts .listed); possible = facts .sound .possible; idle = facts .idle };
-                    boot = boot;
-                    program = facts .agree ∙ boot;
-                    lock = facts .lock;
-                    reach = facts .reach;
-                    quad = update .quad;
-                  };
-              losing = start-losing;
-              below = omega arith;
-              device = refl;
-            });
+        phase = enters startFixed prologue tt (s .device) start-begins (bankOf s (not b)) start-losing 0 refl;
       }
 
+  pub start-total : startOf g s image .total ≡ totalOf g
+  unfolding startOf
+  start-total = rw (update .accepted)
+
+pub start-place : (g : Geometry) (s : State) (image : List ℕ) → startOf g s image .place ≡ 0
+unfolding startOf
+start-place g s image = refl
+
 -- ---- accepted again
-module _ (g : Geometry) (image : List ℕ) (b : Bool) (old : List ℕ) (fixed : Fixed g image old) (f : Device) (new : List ℕ) where
-  pub accepted-again : length new ≡ bankWordsOf g → Losing g image b old new → Started g b f → acceptedOf (startOf g (placed b f old new) image .decline) ≡ true
+module _ (u : Fixed) (f : Device) (new : List ℕ) where
+  open Fixed u using (g, image, b, old, listed, image-long, old-long, valid, more)
+
+  pub accepted-again : length new ≡ bankWordsOf g → Losing u new → Started g b f → acceptedOf (startOf g (placed b f old new) image .decline) ≡ true
   unfolding startOf startDeclineOf sequenceAllowsOf upperFreeOf
   accepted-again long losing started =
-      rw (
-        opened,
-        started .rest .idle,
-        valid,
-        keeps,
-        agree,
-        safe,
-        more,
-        started .lock,
-        started .pwp,
-        lt-ltb 0 (programBytesOf g) reach,
-      )
+      rw (opened, started .rest .idle, lower-ok, keeps, agree, safe, next, started .lock, started .pwp, lt-ltb 0 (programBytesOf g) reach)
     where
-      lower : (t : Bool) → wordAt (pick t (pick t old new) (pick t new old)) (sequenceIndexOf g) ≡ wordAt old (sequenceIndexOf g)
-      lower true = refl
-      lower false = refl
-
-      other : (t : Bool) → wordAt (pick t (pick t new old) (pick t old new)) (sequenceIndexOf g) ≡ wordAt new (sequenceIndexOf g)
-      other true = refl
-      other false = refl
-
       lower-is : lowerWordOf g (placed b f old new) ≡ wordAt old (sequenceIndexOf g)
-      lower-is = rw (started .boot) (lower b)
-
-      other-is : otherWordOf g (placed b f old new) ≡ wordAt new (sequenceIndexOf g)
-      other-is = rw (started .boot) (other b)
-
-      lengths : (t : Bool) → (length (pick t new old) ≡ bankWordsOf g) × (length (pick t old new) ≡ bankWordsOf g)
-      lengths true = (long, fixed .old-long)
-      lengths false = (fixed .old-long, long)
+      lower-is = lower-placed b f old new g (started .boot)
 
       opened : openingOf g f (length (pick b new old) ∷ length (pick b old new) ∷ length image ∷ []) 0 ≡ Decline.Accepted
       opened =
-          opens g f (length (pick b new old) ∷ length (pick b old new) ∷ length image ∷ []) 0 (fixed .listed)
-          (lengths b .0, (lengths b .1, (fixed .image-long, tt))) (omega arith) (started .rest .possible)
+          let (first, other) = both-placed (λ (l : List ℕ). length l ≡ bankWordsOf g) b old new old-long long in
+          opens g f (length (pick b new old) ∷ length (pick b old new) ∷ length image ∷ []) 0 listed (first, (other, (image-long, tt))) (omega arith)
+          (started .rest .possible)
 
-      valid : lowerValidOf g (placed b f old new) ≡ true
-      valid = ap validOf lower-is ∙ fixed .valid
+      lower-ok : lowerValidOf g (placed b f old new) ≡ true
+      lower-ok = ap validOf lower-is ∙ valid
 
       keeps : resetKeepsOf g (placed b f old new) ≡ true
-      keeps = same-self _ _ (compared b ∙ losing .loses .chosen ∙ sym (started .boot))
-        where
-          compared : (t : Bool) → comparedOf g (pick t new old) (pick t old new) ≡ chosenOf t (wordAt old (sequenceIndexOf g)) (wordAt new (sequenceIndexOf g))
-          compared true = refl
-          compared false = refl
+      keeps = same-self _ _ (compared-placed b f old new g ∙ losing .loses .chosen ∙ sym (started .boot))
 
       agree : swapsAgreeOf (placed b f old new) ≡ true
       agree = same-self _ _ (started .program ∙ sym (started .boot))
 
       safe : otherSafeOf g (placed b f old new) ≡ true
-      safe = ap (λ (w : ℕ). validOf w || clashOf w) other-is ∙ losing .loses .safe
+      safe = ap (λ (w : ℕ). validOf w || clashOf w) (other-placed b f old new g (started .boot)) ∙ losing .loses .safe
 
-      more : nextExistsOf g (placed b f old new) ≡ true
-      more = rw (lower-is, fixed .more)
+      next : nextExistsOf g (placed b f old new) ≡ true
+      next = rw (lower-is, more)
 
       reach : 0 < programBytesOf g
-      reach = let ok = in-range g (fixed .listed) in omega (arith, mul-le-mul (ok .p-low) (ok .q-low))
+      reach = let ok = in-range g listed in omega (arith, mul-le-mul (ok .p-low) (ok .q-low))
 
 -- the geometry of an accepted start is in range
 pub start-range : (g : Geometry) (s : State) (words : ℕ) → acceptedOf (startDeclineOf g s words) ≡ true → InRange g

@@ -48,7 +48,7 @@ abbrev pub none : Access
 none = access 0 0 0
 
 -- one store more
-pub next-store : (g : Geometry) (d : Device) (l : List Access) (j : ℕ) → j < length l → let a = getD l j none in
+next-store : (g : Geometry) (d : Device) (l : List Access) (j : ℕ) → j < length l → let a = getD l j none in
     storeOf g (storesOf g d (take j l)) (a .register) (a .form) (a .value) .device ≡ storesOf g d (take (suc j) l)
 next-store g d l j h =
     sym (stores-append g d (take j l) (getD l j none ∷ [])) ∙ ap (storesOf g d) (sym (take-suc l j none h))
@@ -58,6 +58,10 @@ pub stored-at : (l : List Access) (j : ℕ) → j < length l → let a = getD l 
 stored-at [] j h = absurd (not-suc-le-zero h)
 stored-at (a ∷ l) zero h = refl
 stored-at (a ∷ l) (suc j) h = stored-at l j (le-of-suc-le-suc h)
+
+pub stored-length : (l : List Access) → length (stored l) ≡ length l
+stored-length [] = refl
+stored-length (a ∷ l) = ap suc (stored-length l)
 
 -- ---- BFSWAP stays where NVMCON is stored to only with the key shut
 -- the key is shut before each store to NVMCON, given whether it is shut before the first
@@ -83,7 +87,8 @@ module _ (g : Geometry) (d : Device) (rest : AtRest g d) (a : Access) (quiet : N
       rw (store-runs g d rest (a .register) (a .form) (a .value) (quiet .form))
       (pick-both (λ (s : Stored). s .device .keystep ≡ 0) (eqb (a .register) 0) refl (rw (not-true (eqb (a .register) 1) other)))
 
-  store-keeps : (pick (eqb (a .register) 0) (not (isOpen d)) true ≡ true) → bit 6 (storeOf g d (a .register) (a .form) (a .value) .device .nvmcon .0) ≡ bit 6 (d .nvmcon .0)
+  store-keeps : pick (eqb (a .register) 0) (not (isOpen d)) true ≡ true
+      → bit 6 (storeOf g d (a .register) (a .form) (a .value) .device .nvmcon .0) ≡ bit 6 (d .nvmcon .0)
   unfolding storeAcceptedOf appliedOf
   store-keeps shut =
       rw (store-runs g d rest (a .register) (a .form) (a .value) (quiet .form)) (go (eqb (a .register) 0) shut)
@@ -92,8 +97,8 @@ module _ (g : Geometry) (d : Device) (rest : AtRest g d) (a : Access) (quiet : N
       w = wantedOf (a .form) (registerOf d (a .register)) (a .value)
 
       go : (t : Bool) → pick t (not (isOpen d)) true ≡ true
-          → bit 6 (pick t (accepted (withCon d (conStoreOf g d w .nvmcon) 0 (d .step)) (conStoreOf g d w .event)) (accepted (appliedOf d (a .register) w) false) .device .nvmcon .0)
-          ≡ bit 6 (d .nvmcon .0)
+          → let con = accepted (withCon d (conStoreOf g d w .nvmcon) 0 (d .step)) (conStoreOf g d w .event) in
+          bit 6 (pick t con (accepted (appliedOf d (a .register) w) false) .device .nvmcon .0) ≡ bit 6 (d .nvmcon .0)
       go true h = con-keeps g d w 6 (shut-takes d (not-true (isOpen d) h)) refl
       go false h = refl
 
@@ -136,10 +141,6 @@ shut-prefix shut [] (suc m) (suc j) h q = tt
 shut-prefix shut (a ∷ l) (suc m) (suc j) h q = (q .0, shut-prefix (not (eqb (a .register) 1)) l m j (le-of-suc-le-suc h) (q .1))
 
 -- the next device of a list of stores
-pub storing : (g : Geometry) (d first : Device) (l : List Access) (j : ℕ) → j < length l → d ≡ storesOf g first (take j l) → let a = getD l j none in
+pub storing-next : (g : Geometry) (d first : Device) (l : List Access) (j : ℕ) → j < length l → d ≡ storesOf g first (take j l) → let a = getD l j none in
     storeOf g d (a .register) (a .form) (a .value) .device ≡ storesOf g first (take (suc j) l)
-storing g d first l j h e = rw e (next-store g first l j h)
-
--- the device after store j of a list
-abbrev pub storedNext : Geometry → Device → List Access → ℕ → Device
-storedNext g d l j = let a = getD l j none in storeOf g d (a .register) (a .form) (a .value) .device
+storing-next g d first l j h e = rw e (next-store g first l j h)

@@ -6,8 +6,8 @@ use mathlib.Core.List.{List, []}
 use lib.ListN.{length, replicate}
 use Rattle.words.specs.Word.{allOnes}
 use Rattle.geometry.specs.Banks.{bankWordsOf}
-use Rattle.machine.specs.Machine.{State, bankOf}
-use Rattle.update.specs.PowerFail.{at, afterTurns, placeAfter, NoneDeclined, Cut, restarted, Runs, Update}
+use Rattle.machine.specs.Machine.{State}
+use Rattle.update.specs.PowerFail.{afterTurns, placeAfter, Cut, restarted, Runs, Update}
 use Rattle.update.specs.Bench.{smallest, benchBank, benchState}
 
 -- the bench with bank 1's sequence word 0xFFFE0001, and an image of all ones
@@ -24,10 +24,8 @@ emptySrams n = replicate n []
 pub record Example : Type 0 where
   -- "any accepted update": this is one
   pub update : Update smallest exampleState exampleImage
-  -- "none of these calls is declined, and as many turns as the total reach it, so a run A exists": 252 turns
-  pub none-declined : NoneDeclined smallest exampleImage (at exampleState 0) (emptySrams 252)
+  -- "as many turns as the total reach it, so a run A exists": 252 turns
   pub reaches : placeAfter smallest exampleState exampleImage (emptySrams 252) ≡ 252
   -- "After A, whatever reset and then a completed start-up follow, the sign runs the new bank": bank 2 with the image and T = 2
-  pub complete : (c : Cut) → length (c .sram) ≤ 16384 → c .kind ≤ 2
-      → let t = restarted smallest (afterTurns smallest exampleState exampleImage (emptySrams 252)) c in
-      Runs t true × (bankOf t true ≡ benchBank 0xFFFD_0002)
+  pub new-runs : (c : Cut) → length (c .sram) ≤ 16384 → c .kind ≤ 2
+      → Runs (restarted smallest (afterTurns smallest exampleState exampleImage (emptySrams 252)) c) true (benchBank 0xFFFD_0002)

@@ -1,7 +1,7 @@
 -- A turn: why it is declined, and what it does. Assumes nothing.
-use Prim.Native.Nat.{ℕ, _+_}
+use Prim.Native.Nat.{ℕ, _+_, _<_}
 use mathlib.Core.Path.{_≡_}
-use mathlib.Core.Bool.{Bool, true, false}
+use mathlib.Core.Bool.{Bool, true, false, _&&_}
 use mathlib.Core.List.{List, [], _∷_}
 use lib.Dec.{eqb, ltb}
 use lib.ListN.{length}
@@ -74,3 +74,16 @@ turnOf g s image sram place =
     (pick (eqb place (totalOf g)) (turning Decline.Accepted true s place false)
     (performed place (performOf g s sram (nextActionOf g s image place))))
     (turning (turnDeclineOf g s image (length sram) place) false s place false)
+
+-- what holds of every turn, whatever it is given
+pub record EveryTurn (g : Geometry) (s : State) (image sram : List ℕ) (place : ℕ) : Type 0 where
+  -- its answer is the decline above, no other
+  pub answer : turnOf g s image sram place .decline ≡ turnDeclineOf g s image (length sram) place
+  -- declined it "keeps its place", the device and both banks
+  pub declined : acceptedOf (turnOf g s image sram place .decline) ≡ false
+      → (turnOf g s image sram place .state ≡ s) × (turnOf g s image sram place .place ≡ place)
+  -- "At the total, and only there, it says done and changes nothing."
+  pub done : turnOf g s image sram place .done ≡ (acceptedOf (turnOf g s image sram place .decline) && eqb place (totalOf g))
+  pub unchanged : place ≡ totalOf g → (turnOf g s image sram place .state ≡ s) × (turnOf g s image sram place .place ≡ place)
+  -- "and raises the place by 1"
+  pub raises : acceptedOf (turnOf g s image sram place .decline) ≡ true → place < totalOf g → turnOf g s image sram place .place ≡ place + 1
