@@ -150,7 +150,7 @@ fn print_directed(cases: Vec<(&str, Case)>, subject: &str) -> io::Result<bool> {
     Ok(count > 0)
 }
 
-/// The lines of the input, then the cases of files and the directed ones that are not among them.
+/// The lines of the input, then the cases of files and the directed ones of the base's calls that are not among them.
 fn complete(files: &[&str]) -> io::Result<bool> {
     let mut bytes = Vec::new();
     io::stdin().lock().read_to_end(&mut bytes)?;
@@ -162,9 +162,7 @@ fn complete(files: &[&str]) -> io::Result<bool> {
     let mut seen: HashSet<&str> = text.lines().map(left_of_bar).collect();
     let stored: io::Result<Vec<String>> = files.iter().map(std::fs::read_to_string).collect();
     let stored = stored?;
-    let directed = directed::cases()
-        .into_iter()
-        .chain(directed::request_cases());
+    let directed = directed::cases().into_iter();
     let directed: Vec<String> = directed.map(|(_, case)| case.inputs()).collect();
     let stored = stored.iter().flat_map(|text| text.lines());
     for line in stored.chain(directed.iter().map(String::as_str)) {

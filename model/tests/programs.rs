@@ -2,7 +2,7 @@
 
 use model::cases::{answer_line, left_of_bar};
 use model::cuts::cuts;
-use model::generate::directed::{cases, request_cases};
+use model::generate::directed::cases;
 use model::generate::record_edges;
 use model::script::{play, unbundled};
 use std::collections::HashSet;
@@ -49,25 +49,17 @@ fn conformance_program() {
     assert_eq!(printed.as_bytes(), stored("conformance", "stdout"));
 }
 
-/// Every stored call case and every directed one is among the program's inputs.
+/// Every stored case of the base's calls and every directed one is among the program's inputs.
 #[test]
 fn conformance_inputs() {
     let inputs = stored("conformance", "stdin");
     let inputs = String::from_utf8_lossy(&inputs);
     let there: HashSet<&str> = inputs.lines().map(left_of_bar).collect();
-    let vectors = Path::new(env!("CARGO_MANIFEST_DIR")).join("vectors");
-    for name in [
-        "calls",
-        "requests/plan",
-        "requests/page_sheet",
-        "requests/lanes",
-    ] {
-        let calls = std::fs::read_to_string(vectors.join(name).with_extension("txt")).unwrap();
-        for line in calls.lines() {
-            assert!(there.contains(left_of_bar(line)), "{line}");
-        }
+    let calls = Path::new(env!("CARGO_MANIFEST_DIR")).join("../rust/tests/cases/calls.txt");
+    for line in std::fs::read_to_string(calls).unwrap().lines() {
+        assert!(there.contains(left_of_bar(line)), "{line}");
     }
-    for (subject, case) in cases().into_iter().chain(request_cases()) {
+    for (subject, case) in cases() {
         let inputs = case.inputs();
         assert!(there.contains(&inputs[..]), "{subject}: {inputs}");
     }

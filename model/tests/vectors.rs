@@ -1,41 +1,14 @@
-//! The stored cases and scripts.
+//! The stored scripts, and lines that are no case.
 
 use model::cases::answer_line;
 use model::script::play;
-use std::path::{Path, PathBuf};
-
-fn folder() -> PathBuf {
-    Path::new(env!("CARGO_MANIFEST_DIR")).join("vectors")
-}
-
-/// Compares each stored right side with the model's; gives the count of lines.
-fn compare_lines(path: &Path) -> usize {
-    let text = std::fs::read_to_string(path).unwrap();
-    for (number, line) in text.lines().enumerate() {
-        let (_, stored) = line.split_once(" | ").unwrap();
-        let place = format!("{}: line {}", path.display(), number + 1);
-        assert_eq!(answer_line(line), stored, "{place}");
-    }
-    text.lines().count()
-}
-
-#[test]
-fn stored_cases() {
-    assert!(compare_lines(&folder().join("calls.txt")) >= 400);
-}
-
-#[test]
-fn stored_requests() {
-    for (name, count) in [("plan", 400), ("page_sheet", 120), ("lanes", 300)] {
-        let path = folder().join("requests").join(name).with_extension("txt");
-        assert_eq!(compare_lines(&path), count);
-    }
-}
+use std::path::Path;
 
 #[test]
 fn stored_scripts() {
+    let folder = Path::new(env!("CARGO_MANIFEST_DIR")).join("vectors/scripts");
     let mut count = 0;
-    for entry in std::fs::read_dir(folder().join("scripts")).unwrap() {
+    for entry in std::fs::read_dir(folder).unwrap() {
         let path = entry.unwrap().path();
         if path.extension().unwrap() != "bin" {
             continue;

@@ -1,6 +1,4 @@
-//! Cases of the calls that later requests added: random, directed and stored ones.
-
-use std::path::Path;
+//! Cases of the calls that later requests added: random and directed ones.
 
 use model::cases::{Call, Case};
 use model::generate::{directed, Cases, DEFAULT_WORDS, MOST_WORDS};
@@ -42,24 +40,6 @@ fn directed_requests() {
         check_case(case);
     }
     report.finish(format_args!("{} cases", all.len()));
-}
-
-#[test]
-fn stored_requests() {
-    let report = Report::new(String::from("stored requests"));
-    let folder = Path::new(env!("CARGO_MANIFEST_DIR")).join("../model/vectors/requests");
-    let mut count = 0;
-    for entry in std::fs::read_dir(folder).expect("the stored requests") {
-        let path = entry.expect("a stored file").path();
-        let text = std::fs::read_to_string(path).expect("stored requests");
-        for line in text.lines() {
-            let (inputs, expected) = line.split_once(" | ").expect("a bar");
-            check(inputs, expected);
-            count += 1;
-        }
-    }
-    assert!(count > 0);
-    report.finish(format_args!("{count} cases"));
 }
 
 /// A list that ends with a start alone is out of range, whatever it holds; no line of a case can have one.

@@ -1,0 +1,68 @@
+//! What is a line, what is a case, and what the program does beside them.
+
+use std::process::Command;
+
+use model::cases::answer_line;
+
+use crate::run::{check, printed, PROGRAM};
+
+#[test]
+fn lines() {
+    assert_eq!(printed(b""), "");
+    assert_eq!(printed(b"\n"), "?\n");
+    assert_eq!(printed(b"compare 65535 0"), "1\n");
+    assert_eq!(printed(b"compare 65535 0\n\nx\n"), "1\n?\n?\n");
+    assert_eq!(printed(b"compare 65535 0|2\r\n"), "1\n");
+    assert_eq!(printed(b"compare 65535 0\r\n"), "?\n");
+    assert_eq!(printed(b"\xFF\nplan 0 1 1 0 \xFF\n"), "?\n?\n");
+}
+
+/// A line that goes on after its inputs is no case, be the call accepted or declined.
+#[test]
+fn lines_that_go_on() {
+    let device = "0 0 0 0 0 0 0 0 2147483648 40927 2031616 0 0";
+    let startup = format!("startup 1 1 1 {device}");
+    let declined = format!("startup 3 1 1 {device}");
+    for (line, expected) in [
+        (&startup, "0 0 0 0 0 0 0 0 0 2147483648 40927 2031808 0 0"),
+        (&declined, "1"),
+    ] {
+        assert_eq!(printed(line.as_bytes()), format!("{expected}\n"));
+        assert_eq!(printed(format!("{line} 0").as_bytes()), "?\n");
+        assert_eq!(printed(format!("{line}  ").as_bytes()), "?\n");
+        assert_eq!(
+            printed(format!("{line} ").as_bytes()),
+            format!("{expected}\n")
+        );
+    }
+}
+
+/// Lists that are longer than any that a call takes.
+#[test]
+fn long_lists() {
+    let device = "0 0 0 0 0 0 0 0 2147483648 40927 2031616 0 0";
+    let sheet = format!("page_sheet 1 1 1 {device} 64 0 0 64 0 1 63 1");
+    let lines = [
+        String::from("page 128 5 64 300001 7 1 300000 8 0"),
+        String::from("page 1 1 1 16777216 4294967295 0 0"),
+        format!("step 1 1 1 {device} 64 0 0 1000000 1 1 999999 2 16385 3 0"),
+        format!("{sheet} 15262104 32 2 5 0 15262103 255"),
+        String::from("lanes_out 4000000 0 1 3 9 4000000 0 1 3999999 1"),
+        String::from("lanes_back 4000000 0 2 3 9 3999999 1 4000000 1 0"),
+        String::from("lanes_out 4000004 0 0 4000000 0 0"),
+    ];
+    let answered = lines.map(|line| {
+        let expected = answer_line(&line);
+        (line, expected)
+    });
+    assert!(answered.iter().all(|(_, expected)| expected != "?"));
+    check(&answered);
+}
+
+#[test]
+fn it_takes_no_arguments() {
+    let ran = Command::new(PROGRAM).arg("calls.txt").output();
+    let ran = ran.expect("the program is run");
+    assert_eq!((ran.status.code(), ran.stdout.len()), (Some(2), 0));
+    assert!(ran.stderr.starts_with(b"cases: "));
+}
