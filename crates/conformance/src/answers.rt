@@ -8,8 +8,6 @@ use conformance_calls::names::Call;
 use conformance_io::output::flush;
 use conformance_io::output::put_answer;
 use conformance_lists::bytes::find;
-use conformance_requests::names::Request;
-use conformance_requests::requests::put_request;
 
 // The longest list that can be lent, in words. A bank has at most 282,624.
 const LONGEST_LIST: usize = 300000;
@@ -48,12 +46,8 @@ fn put_line(
     let end = inputs_end(line);
     let inputs = &line[..end];
     let after = find(inputs, 0, b' ');
-    let name = &inputs[..after];
-    let request = Request::of(name);
-    if request.is_known() {
-        return put_request(request, inputs, after, out, used, one, two, spare);
-    }
-    let given = call_answer(Call::of(name), inputs, after, one, two, spare);
+    let call = Call::of(&inputs[..after]);
+    let given = call_answer(call, inputs, after, one, two, spare);
     put_answer(out, used, given)
 }
 

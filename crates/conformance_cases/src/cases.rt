@@ -52,7 +52,7 @@ fn take_rest(lists: usize, line: &[u8], at: usize, spare: &mut [u32], most: usiz
     }
 }
 
-pub fn all(first: bool, second: bool, third: bool) -> bool
+fn all(first: bool, second: bool, third: bool) -> bool
     ensures { λ r. ⌜ r ≡ (first && (second && third)) ⌝ }
 {
     if !first {

@@ -17,7 +17,7 @@ pub fn flush(out: &[u8], used: usize) -> usize
     0
 }
 
-pub fn put_byte(out: &mut [u8], used: usize, byte: u8) -> usize
+fn put_byte(out: &mut [u8], used: usize, byte: u8) -> usize
     requires { ⌜ Used (now out) used ⌝ }
     ensures { λ r. ⌜ Used (now (out .exit)) r ⌝ }
 {
@@ -43,7 +43,7 @@ fn put_bytes(out: &mut [u8], used: usize, bytes: &[u8]) -> usize
     at
 }
 
-pub fn put_number(out: &mut [u8], used: usize, number: u64) -> usize
+fn put_number(out: &mut [u8], used: usize, number: u64) -> usize
     requires { ⌜ Used (now out) used ⌝ }
     ensures { λ r. ⌜ Used (now (out .exit)) r ⌝ }
 {
@@ -53,7 +53,7 @@ pub fn put_number(out: &mut [u8], used: usize, number: u64) -> usize
 }
 
 // A number after a blank.
-pub fn put_next(out: &mut [u8], used: usize, number: u64) -> usize
+fn put_next(out: &mut [u8], used: usize, number: u64) -> usize
     requires { ⌜ Used (now out) used ⌝ }
     ensures { λ r. ⌜ Used (now (out .exit)) r ⌝ }
 {

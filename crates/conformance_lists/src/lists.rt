@@ -1,5 +1,5 @@
 // Lent lists of words in a line: a list's length, the word that fills it, how many pairs follow, and the pairs, each an
-// index and the word there. A list of bytes is written as one of words, none above 255.
+// index and the word there.
 ghost use mathlib.Core.Path.{_≡_};
 ghost use Prim.Native.Nat.{_<_};
 ghost use Rattle.conformance_lists.specs.Lists.{Held};
@@ -40,8 +40,8 @@ fn wrong(next: usize) -> Pairs {
     }
 }
 
-// Sets the words of so many pairs from a position on. A pair with a word above `largest` is not right.
-fn set_pairs(line: &[u8], at: usize, words: &mut [u32], count: u32, largest: u32) -> Pairs {
+// Sets the words of so many pairs from a position on.
+fn set_pairs(line: &[u8], at: usize, words: &mut [u32], count: u32) -> Pairs {
     let mut next = at;
     let mut i = 0;
     while i < count {
@@ -53,9 +53,6 @@ fn set_pairs(line: &[u8], at: usize, words: &mut [u32], count: u32, largest: u32
         let numbers = pair.words;
         let index = numbers[0] as usize;
         if words.len() <= index {
-            return wrong(next);
-        }
-        if largest < numbers[1] {
             return wrong(next);
         }
         words[index] = numbers[1];
@@ -79,8 +76,8 @@ fn empty(is_right: bool, next: usize) -> List
 }
 
 // The list from a position on, in the first words of a buffer. One of more than `most` words, or more than there is room
-// for, or with a word above `largest`, is no list.
-fn take_limited(line: &[u8], at: usize, words: &mut [u32], most: usize, largest: u32) -> List
+// for, is no list.
+pub fn take_list(line: &[u8], at: usize, words: &mut [u32], most: usize) -> List
     ensures { λ r. ⌜ Held (now (words .exit)) most (r .length) ⌝ }
 {
     let head = take(line, at, 3);
@@ -98,23 +95,13 @@ fn take_limited(line: &[u8], at: usize, words: &mut [u32], most: usize, largest:
     if numbers[0] < numbers[2] {
         return empty(false, at);
     }
-    if largest < numbers[1] {
-        return empty(false, at);
-    }
     fill(&mut words[..length], numbers[1]);
-    let pairs = set_pairs(line, head.next, &mut words[..length], numbers[2], largest);
+    let pairs = set_pairs(line, head.next, &mut words[..length], numbers[2]);
     List {
         is_right: pairs.is_right,
         next: pairs.next,
         length,
     }
-}
-
-// A list of words.
-pub fn take_list(line: &[u8], at: usize, words: &mut [u32], most: usize) -> List
-    ensures { λ r. ⌜ Held (now (words .exit)) most (r .length) ⌝ }
-{
-    take_limited(line, at, words, most, u32::MAX)
 }
 
 // The same where a call takes the list.
@@ -125,11 +112,4 @@ pub fn take_list_if(taken: bool, line: &[u8], at: usize, words: &mut [u32], most
         return empty(true, at);
     }
     take_list(line, at, words, most)
-}
-
-// A list of bytes, each in a word of its own.
-pub fn take_byte_list(line: &[u8], at: usize, words: &mut [u32], most: usize) -> List
-    ensures { λ r. ⌜ Held (now (words .exit)) most (r .length) ⌝ }
-{
-    take_limited(line, at, words, most, 255)
 }

@@ -8,10 +8,10 @@ use Rattle.conformance_lists.proofs.lists.set_pairs.Statement.{statemen
 use Rattle.conformance_lists.proofs.lists.set_pairs.Tie as tie
 
 abbrev Inv-loop : tie.InvT-loop
-Inv-loop line at words₀ count largest next₀ i₀ words next i = (i ≤ count) × (length words ≡ length words₀)
+Inv-loop line at words₀ count next₀ i₀ words next i = (i ≤ count) × (length words ≡ length words₀)
 
 abbrev μ-loop : tie.MeasureT-loop
-μ-loop line at words₀ count largest next₀ i₀ words next i = count - i
+μ-loop line at words₀ count next₀ i₀ words next i = count - i
 
 pub set-pairs-spec : {M : Type 1} → statement M
 set-pairs-spec =
@@ -25,10 +25,6 @@ set-pairs-spec =
     (λ c. omega arith)
     (λ c. tt)
     (λ c. search needs)
-    (λ c. search needs)
-    (λ c κs. tt)
-    (λ c. omega arith)
-    (λ c. tt)
     (λ c. search needs)
     (λ c κs. tt)
     (λ c. omega arith)

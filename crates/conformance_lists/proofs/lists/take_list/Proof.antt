@@ -3,11 +3,11 @@ use mathlib.Core.Path.{sym}
 use native.Mathlib.Omega.{arith}
 use borrow.Author.Needs.{needs}
 use lib.Seq.{length-take-le}
-use Rattle.conformance_lists.proofs.lists.take_limited.Statement.{statement}
-use Rattle.conformance_lists.proofs.lists.take_limited.Tie as tie
+use Rattle.conformance_lists.proofs.lists.take_list.Statement.{statement}
+use Rattle.conformance_lists.proofs.lists.take_list.Tie as tie
 
-returns-6 : tie.Need-returns-6
-returns-6 c =
+returns-5 : tie.Need-returns-5
+returns-5 c =
     record {
       within = search needs;
       allowed = search needs;
@@ -15,8 +15,8 @@ returns-6 c =
       front = sym (length-take-le _ _ (search needs));
     }
 
-pub take-limited-spec : {M : Type 1} → statement M
-take-limited-spec =
+pub take-list-spec : {M : Type 1} → statement M
+take-list-spec =
     tie.close
     (tie.spec
     (λ c κs. search needs)
@@ -33,9 +33,6 @@ take-limited-spec =
     (λ c κs. search needs)
     (λ c. search needs)
     (λ c. search needs)
-    (λ c κs. search needs)
-    (λ c. search needs)
-    (λ c. search needs)
     (λ c. sym (length-take-le _ _ (omega arith)))
     (λ c. search needs)
     (λ c κs. search needs)
@@ -44,4 +41,4 @@ take-limited-spec =
     (λ c. search needs)
     (λ c κs. search needs)
     (λ c. search needs)
-    returns-6)
+    returns-5)

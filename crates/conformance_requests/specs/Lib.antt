@@ -1,2 +1,0 @@
-pub mod ByteLists
-pub mod Names
