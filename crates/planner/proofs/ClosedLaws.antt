@@ -41,7 +41,8 @@ module _ (minute duration : ℕ) (some : 1 ≤ duration) where
       go true ea b eb c ec = rw (eqb-true length week ea) (wait-whole start minute duration)
       go false ea true eb c ec = wait-none start length minute duration (omega (arith, eqb-false length week ea)) some (ltb-true _ _ eb)
       go false ea false eb true ec = wait-at-once start length minute duration (omega (arith, eqb-false length week ea)) some (leb-true _ _ ec)
-      go false ea false eb false ec = wait-next start length minute duration (omega (arith, eqb-false length week ea)) some (leb-false _ _ ec) (ltb-false _ _ eb)
+      go false ea false eb false ec =
+          wait-next start length minute duration (omega (arith, eqb-false length week ea)) some (leb-false _ _ ec) (ltb-false _ _ eb)
 
   least-closed : (lent : List ℕ) (n : ℕ) → windowsInRangeOf lent n ≡ true
       → leastWaitOf minute duration lent n ≡ closedBelow minute duration lent n

@@ -58,7 +58,11 @@ first-never n = record { within = omega arith; found = λ l. absurd (omega arith
 -- one of two tests holds
 pub first-either : (p q : ℕ → Bool) (n a b : ℕ) → First p n a → First q n b → First (λ (k : ℕ). p k || q k) n (min a b)
 first-either p q n a b first second =
-    record { within = omega (arith, first .within); found = found (decLe a b); before = λ k l. rw (first .before k (omega arith)) (second .before k (omega arith)) }
+    record {
+      within = omega (arith, first .within);
+      found = found (decLe a b);
+      before = λ k l. rw (first .before k (omega arith)) (second .before k (omega arith));
+    }
   where
     found : Dec (a ≤ b) → min a b < n → (p (min a b) || q (min a b)) ≡ true
     found (yes l) h = let e : min a b ≡ a = omega arith in rw (e, first .found (omega arith))

@@ -2,6 +2,8 @@ pub mod FirstLaws
 pub mod WindowLaws
 pub mod RangeLaws
 pub mod LeastLaws
+pub mod FitLaws
 pub mod PlanLaws
+pub mod OnlyPlanLaws
 pub mod ClosedLaws
 pub mod Examples

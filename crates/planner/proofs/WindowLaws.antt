@@ -15,7 +15,7 @@ use Rattle.planner.specs.Planner.{fitsInOf}
 use Rattle.planner.proofs.FirstLaws.{First}
 
 -- what holds of each number below n is tested so
-all-hold : (p : ℕ → Bool) (n : ℕ) → ((k : ℕ) → k < n → p k ≡ true) → allBelow p n ≡ true
+pub all-hold : (p : ℕ → Bool) (n : ℕ) → ((k : ℕ) → k < n → p k ≡ true) → allBelow p n ≡ true
 all-hold p zero h = refl
 all-hold p (suc n) h = rw (all-hold p n (λ k l. h k (omega arith))) (h n (omega arith))
 
@@ -49,6 +49,16 @@ not-held start length minute k round l = rw (later start minute k round) (le-ltb
 -- "and not the one after its last"
 pub after-last : (start length : ℕ) → start < week → length < week → heldOf (window start length) ((start + length) % week) ≡ false
 after-last start length starts short = not-held start length start length (omega arith) (omega arith)
+
+-- the minutes between
+pub its-minutes : (start length k : ℕ) → start < week → length ≤ week → k < length → heldOf (window start length) ((start + k) % week) ≡ true
+unfolding heldOf
+its-minutes start length k starts most l = let e : offset start ((start + k) % week) ≡ k = omega arith in rw e (lt-ltb k length l)
+
+-- and none of those after its last
+pub no-others : (start length k : ℕ) → start < week → length ≤ k → k < week → heldOf (window start length) ((start + k) % week) ≡ false
+unfolding heldOf
+no-others start length k starts l round = let e : offset start ((start + k) % week) ≡ k = omega arith in rw e (le-ltb k length l)
 
 module _ (start length minute duration : ℕ) (short : length < week) (some : 1 ≤ duration) (wait : ℕ) where
   fits-within : offset start (minute + wait) + duration ≤ length → fitsInOf minute duration (window start length) wait ≡ true

@@ -50,7 +50,8 @@ plan-spec =
     (λ c κs. search needs)
     (λ c.
     let out = sym (c .before .before .window-in-range .ensures) ∙ not-true _ (c .before .if2 .taken) in
-    c .declined2 .ensures ∙ plan-out _ _ _ (window-out _ _ _ (c .before .before .before .before .before .before .loop .i) (c .before .before .before .before .before .loop-test .taken) out))
+    let test = c .before .before .before .before .before in
+    c .declined2 .ensures ∙ plan-out _ _ _ (window-out _ _ _ (test .before .loop .i) (test .loop-test .taken) out))
     (λ c κs.
     let (count, numbers, windows, least) = c .before .before .before .before .before .loop .inv in
     (numbers-range _ _ _ numbers, window-range _ (sym (c .before .window-in-range .ensures) ∙ not-false _ (c .if2 .left))))
@@ -62,7 +63,9 @@ plan-spec =
     let a = c .before .before .before .before .before .before .before .before .before .before .before .args in
     let (count, numbers, windows, least) = loop .inv in
     let within = sym (c .before .before .before .window-in-range .ensures) ∙ not-false _ (c .before .before .if2 .left) in
-    (omega arith, numbers, windows-more (a .windows .now) (loop .i) windows within, rw (c .smaller .ensures, least, c .before .window-wait .ensures) (least-more (a .minute) (a .duration) (a .windows .now) (loop .i))))
+    let more = windows-more (a .windows .now) (loop .i) windows within in
+    let next = least-more (a .minute) (a .duration) (a .windows .now) (loop .i) in
+    (omega arith, numbers, more, rw (c .smaller .ensures, least, c .before .window-wait .ensures) next))
     (λ c κs. search needs)
     (λ c.
     let (count, numbers, windows, least) = c .before .before .before .loop .inv in
