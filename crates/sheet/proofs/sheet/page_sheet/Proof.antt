@@ -25,6 +25,24 @@ fits c =
     let a = c .before .before .before .before .before .before .args in
     holds (a .g) (a .d) (length (a .one .now)) (length (a .two .now)) (length (a .out .now)) (accepted c)
 
+-- bank 1's lines, then bank 2's: the sheet
+sheet-written : tie.Need-returns-2
+unfolding pageSheetOf
+sheet-written c =
+    let first = c .before .before .before .before .before .before in
+    let pages = first .before .before in
+    let a = pages .before .before .before .before .before .before .before .args in
+    let ok = fits (pages .before) in
+    let bytes : 2 * (17 * pagesOf (a .g)) ≡ sheetBytesOf (a .g) = omega arith in
+    rw (
+      accepted (pages .before),
+      c .before .before .put-bank2 .ensures,
+      first .put-bank .ensures,
+      pages .pages .ensures,
+      put-sheet (a .g) (ok .range) (a .d) (a .one .now) (a .two .now) (a .out .now) (ok .room),
+      bytes,
+    )
+
 pub page-sheet-spec : {M : Type 1} → statement M
 unfolding pageSheetOf
 page-sheet-spec =
@@ -40,20 +58,7 @@ page-sheet-spec =
     (λ c κs.
     let pages = c .before .before .before .before .before in
     let ok = fits (pages .before) in
-    (ok .range, (ok .other, omega (arith, ok .room, pages .pages .ensures))))
+    (ok .range, (omega (arith, ok .first, ok .other), omega (arith, ok .room, pages .pages .ensures))))
     (λ c. search needs)
     (λ c. search needs)
-    (λ c.
-    let first = c .before .before .before .before .before .before in
-    let pages = first .before .before in
-    let a = pages .before .before .before .before .before .before .before .args in
-    let ok = fits (pages .before) in
-    let bytes : 2 * (17 * pagesOf (a .g)) ≡ sheetBytesOf (a .g) = omega arith in
-    rw (
-      accepted (pages .before),
-      c .before .before .put-bank2 .ensures,
-      first .put-bank .ensures,
-      pages .pages .ensures,
-      put-sheet (a .g) (ok .range) (a .d) (a .one .now) (a .two .now) (a .out .now) (ok .room),
-      bytes,
-    )))
+    sheet-written)
