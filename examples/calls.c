@@ -97,9 +97,14 @@ static void step_call(yohrundel_device d)
 /* A window on Tuesday, and one from Sunday on past the end of the week, which is over at minute 240. */
 static void plan_call(void)
 {
-    static const uint32_t windows[] = {1500, 240, 9960, 360};
+    static const yohrundel_window windows[] = {{1500, 240}, {9960, 360}};
     const yohrundel_plan_answer planned = yohrundel_plan(200, 60, windows, sizeof windows / sizeof windows[0]);
     printf("plan %" PRIu32 " %" PRIu32 "\n", planned.decline, planned.wait);
+
+    /* No windows, more than 14, and so many that twice their count wraps to the two numbers of one window. */
+    const size_t counts[] = {0, 15, SIZE_MAX / 2 + 2, SIZE_MAX};
+    for (size_t i = 0; i < sizeof counts / sizeof counts[0]; i++)
+        expect(yohrundel_plan(200, 60, counts[i] ? windows : NULL, counts[i]).decline == YOHRUNDEL_DECLINE_HOURS, "a count of windows");
 }
 
 static void sheet_call(yohrundel_device d)

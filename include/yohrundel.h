@@ -17,7 +17,7 @@
  *
  * Mistakes that no call can see
  *
- *   - a pointer that does not point to as many words or bytes as the count beside it says, or is not aligned for them;
+ *   - a pointer that does not point to as many words, bytes or windows as the count beside it says, or is not aligned for them;
  *     a null pointer goes with the count 0 only, and the device of yohrundel_turn_lent is never null;
  *   - lent memory that overlaps other lent memory where one of the two is written: the two banks, the device of yohrundel_turn_lent,
  *     the buffers of yohrundel_play and yohrundel_page_sheet and the target of byte lanes are; where both are only read, they may
@@ -47,6 +47,9 @@ extern "C" {
 
 /* Bytes of a page sheet. */
 #define YOHRUNDEL_SHEET_BYTES(b, p) (34 * ((b) + (p)))
+
+/* The most windows of a plan. */
+#define YOHRUNDEL_MOST_WINDOWS 14
 
 /*
  * The index in a bank of its sequence word: word 0 of the last quad of the last boot page. Its low 16 bits are T, its high 16 bits C;
@@ -277,6 +280,14 @@ typedef struct yohrundel_play_length_answer {
     size_t bytes;
 } yohrundel_play_length_answer;
 
+/* A window of a garage's hours. */
+typedef struct yohrundel_window {
+    /* Its first minute, 0 to 10,079. */
+    uint32_t start;
+    /* How many minutes it has, 1 to 10,080. */
+    uint32_t length;
+} yohrundel_window;
+
 /* The answer to a plan. */
 typedef struct yohrundel_plan_answer {
     uint32_t decline;
@@ -423,11 +434,23 @@ yohrundel_play_length_answer yohrundel_play_length(
  */
 
 /*
- * The smallest wait from the present minute on after which all minutes of a duration of 1 to 1,440, counted modulo 10,080, lie in the same
- * window. The windows, 1 to 14, are lent as start, length, start, length, ..; count counts these numbers, and an odd count is out of range.
- * Declines 15 and 16.
+ * The function of the archive that yohrundel_plan stands on. Its windows are lent as numbers, start, length, start, length, .., and its
+ * count is of these numbers, two for each window; an odd count is out of range.
  */
-yohrundel_plan_answer yohrundel_plan(uint32_t minute, uint32_t duration, const uint32_t *windows, size_t count);
+yohrundel_plan_answer yohrundel_plan_numbers(uint32_t minute, uint32_t duration, const uint32_t *numbers, size_t count);
+
+/*
+ * The smallest wait from the present minute on after which all minutes of a duration of 1 to 1,440, counted modulo 10,080, lie in the same
+ * window. There are 1 to 14 windows, and count is how many; more are declined unread. Declines 15 and 16.
+ */
+static inline yohrundel_plan_answer yohrundel_plan(
+    uint32_t minute, uint32_t duration, const yohrundel_window *windows, size_t count)
+{
+    /* Too many are declined as none are, so that twice the count cannot wrap. */
+    if (count > YOHRUNDEL_MOST_WINDOWS)
+        return yohrundel_plan_numbers(minute, duration, NULL, 0);
+    return yohrundel_plan_numbers(minute, duration, (const uint32_t *)windows, 2 * count);
+}
 
 /*
  * ---- the call for a page sheet

@@ -11,7 +11,7 @@ mod plan;
 mod sheet;
 
 pub(crate) use lanes::{lanes_back, lanes_out};
-pub(crate) use plan::plan;
+pub(crate) use plan::plan_numbers;
 pub(crate) use sheet::page_sheet;
 
 use crate::{Device, Geometry};

@@ -5,20 +5,19 @@ use crate::{ffi, Decline};
 /// The smallest wait in minutes, 0 to 10,079, after which all minutes of a duration lie in the same window.
 ///
 /// A week has minutes 0 to 10,079 from Monday 00:00; `minute` is the present one, and the duration has 1 to 1,440. There are 1 to 14
-/// windows, lent as their numbers: the start of the first, its length of 1 to 10,080, the start of the second, and so on. A list that
-/// ends with a start alone is declined by 15.
+/// windows, each a start minute and a length of 1 to 10,080.
 ///
 /// ```
 /// use yohrundel::{plan, Decline};
 ///
 /// // Tuesday from 01:00 for four hours, Sunday from 22:00 for six, past the end of the week.
 /// let windows = [[1_500, 240], [9_960, 360]];
-/// assert_eq!(plan(0, 60, windows.as_flattened()), Ok(0));
-/// assert_eq!(plan(200, 60, windows.as_flattened()), Ok(1_300));
-/// assert_eq!(plan(200, 361, windows.as_flattened()), Err(Decline::NoWait));
+/// assert_eq!(plan(0, 60, &windows), Ok(0));
+/// assert_eq!(plan(200, 60, &windows), Ok(1_300));
+/// assert_eq!(plan(200, 361, &windows), Err(Decline::NoWait));
 /// ```
-pub fn plan(minute: u32, duration: u32, windows: &[u32]) -> Result<u32, Decline> {
-    let answer = ffi::plan(minute, duration, windows);
+pub fn plan(minute: u32, duration: u32, windows: &[[u32; 2]]) -> Result<u32, Decline> {
+    let answer = ffi::plan_numbers(minute, duration, windows.as_flattened());
     Decline::judge(answer.decline)?;
     Ok(answer.wait)
 }

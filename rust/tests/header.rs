@@ -42,6 +42,7 @@ fn numbers() {
     let named = [
         ("ACCEPTED", 0),
         ("MOST_SRAM_WORDS", 16_384),
+        ("MOST_WINDOWS", 14),
         ("NVMCON", register::NVMCON),
         ("NVMKEY", register::NVMKEY),
         ("NVMADDR", register::NVMADDR),

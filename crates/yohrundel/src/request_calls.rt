@@ -15,9 +15,10 @@ use lanes::lanes::lanes_out;
 use planner::plan::plan;
 use sheet::sheet::page_sheet;
 
-// The least wait until a garage's hours hold a whole update.
+// The least wait until a garage's hours hold a whole update. The slice counts numbers, two for each window: what counts windows stands
+// over it, in include/yohrundel.h and in the wrapper.
 #[no_mangle]
-pub extern "C" fn yohrundel_plan(minute: u32, duration: u32, windows: &[u32]) -> PlanAnswer
+pub extern "C" fn yohrundel_plan_numbers(minute: u32, duration: u32, windows: &[u32]) -> PlanAnswer
     ensures { λ r. ⌜ r ≡ planAnswerOf (planOf minute duration (now (windows .entry))) ⌝ }
 {
     let a = plan(minute, duration, windows);

@@ -59,9 +59,9 @@ impl<'a> Inputs<'a> {
     }
 
     /// "n, then n pairs", without the n.
-    pub fn pairs(&mut self) -> Vec<u32> {
-        let count = 2 * self.number();
-        (0..count).map(|_| self.number()).collect()
+    pub fn pairs(&mut self) -> Vec<[u32; 2]> {
+        let count = self.number();
+        (0..count).map(|_| [self.number(), self.number()]).collect()
     }
 
     pub fn bytes(&mut self) -> Vec<u8> {

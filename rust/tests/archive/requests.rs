@@ -1,8 +1,7 @@
 //! Cases of the calls that later requests added: random and directed ones.
 
-use model::cases::{Call, Case};
+use model::cases::Case;
 use model::generate::{directed, Cases, DEFAULT_WORDS, MOST_WORDS};
-use yohrundel::{plan, Decline};
 
 use crate::case::check;
 use crate::settings::{cases, seed, Report};
@@ -40,24 +39,4 @@ fn directed_requests() {
         check_case(case);
     }
     report.finish(format_args!("{} cases", all.len()));
-}
-
-/// A list that ends with a start alone is out of range, whatever it holds; no line of a case can have one.
-#[test]
-fn odd_lists_of_windows() {
-    let (seed, count) = (seed(10), cases(20));
-    let report = Report::new(format!("plans with an odd list, seed {seed}"));
-    let plans = Cases::of_requests(seed, 0).filter(|case| case.call == Call::Plan);
-    for case in plans.take(count) {
-        let [minute, duration, _, windows @ ..] = &case.numbers[..] else {
-            panic!("no case of a plan");
-        };
-        let longer = [windows, &[0]].concat();
-        for end in (1..=longer.len()).step_by(2) {
-            let odd = &longer[..end];
-            let given = plan(*minute, *duration, odd);
-            assert_eq!(given, Err(Decline::Hours), "{minute} {duration} {odd:?}");
-        }
-    }
-    report.finish(format_args!("{count} cases"));
 }

@@ -117,9 +117,9 @@ impl<'a> Inputs<'a> {
     }
 
     /// "n, then n pairs", without the n.
-    pub fn pairs(&mut self) -> Result<Vec<u32>, NoCase> {
+    pub fn pairs(&mut self) -> Result<Vec<[u32; 2]>, NoCase> {
         let count = self.count()?;
-        (0..2 * count).map(|_| self.number()).collect()
+        (0..count).map(|_| Ok([self.number()?, self.number()?])).collect()
     }
 }
 

@@ -30,7 +30,7 @@ fn run(mut arguments: Arguments) -> Answer {
     let now = arguments.form("NOW", TIME, read_minute)?;
     let duration = arguments.number("DURATION")?;
     let windows = take_windows(&mut arguments)?;
-    let wait = plan(now, duration, windows.as_flattened())?;
+    let wait = plan(now, duration, &windows)?;
     let time = weekday_and_time((now + wait) % WEEK);
     Ok(format!("Wait {wait} minutes, until {time}.\n").into())
 }
