@@ -124,14 +124,14 @@ module _ (minute duration : ℕ) (lent : List ℕ) where
   unfolding planOf
   beside = declined-wait (inRangeOf minute duration lent) (ltb first week) first
 
-pub plans : Plans planOf
-plans =
-    record {
-      answered = answered;
-      accepted = accepted;
-      smallest = smallest;
-      no-wait = no-wait;
-      out-of-range = λ minute duration lent out. ap (λ (p : Planned). p .decline) (sym (plan-out minute duration lent out));
-      only-then = only-then;
-      beside = beside;
-    }
+  pub plans : Plans minute duration lent (planOf minute duration lent)
+  plans =
+      record {
+        answered = answered;
+        accepted = accepted;
+        smallest = smallest;
+        no-wait = no-wait;
+        out-of-range = λ out. ap (λ (p : Planned). p .decline) (sym (plan-out minute duration lent out));
+        only-then = only-then;
+        beside = beside;
+      }

@@ -15,29 +15,25 @@ pub record InOneWindow (minute duration : ℕ) (lent : List ℕ) (wait : ℕ) : 
   pub listed : number < windowCountOf lent
   pub held : (k : ℕ) → k < duration → heldOf (windowAt lent number) ((minute + wait + k) % week) ≡ true
 
--- what W-201 asks of a planner
-pub record Plans (plan : ℕ → ℕ → List ℕ → Planned) : Type 0 where
-  -- answered with 0, 15 or 16 and nothing else: "Turned away: 15", "16"
-  pub answered : (minute duration : ℕ) (lent : List ℕ)
-      → let answer = plan minute duration lent .decline in
-      (answer ≡ Decline.Accepted) ⊎ ((answer ≡ Decline.Hours) ⊎ (answer ≡ Decline.NoWait))
+-- what W-201 asks of the answer to a plan
+pub record Plans (minute duration : ℕ) (lent : List ℕ) (answer : Planned) : Type 0 where
+  -- it is 0, 15 or 16 and nothing else: "Turned away: 15", "16"
+  pub answered : (answer .decline ≡ Decline.Accepted) ⊎ ((answer .decline ≡ Decline.Hours) ⊎ (answer .decline ≡ Decline.NoWait))
   -- accepted where the numbers are in range and a wait fits: "the planner answers"
-  pub accepted : (minute duration : ℕ) (lent : List ℕ) → inRangeOf minute duration lent ≡ true
-      → (wait : ℕ) → wait < week → InOneWindow minute duration lent wait → plan minute duration lent .decline ≡ Decline.Accepted
+  pub accepted : inRangeOf minute duration lent ≡ true → (wait : ℕ) → wait < week → InOneWindow minute duration lent wait
+      → answer .decline ≡ Decline.Accepted
   -- accepted: the wait fits, and it is "the smallest wait, 0 to 10,079"
-  pub smallest : (minute duration : ℕ) (lent : List ℕ) → plan minute duration lent .decline ≡ Decline.Accepted
-      → let wait = plan minute duration lent .wait in
-      (wait < week)
-      × InOneWindow minute duration lent wait
-      × ((less : ℕ) → less < wait → InOneWindow minute duration lent less → ⊥)
+  pub smallest : answer .decline ≡ Decline.Accepted
+      → (answer .wait < week)
+      × InOneWindow minute duration lent (answer .wait)
+      × ((less : ℕ) → less < answer .wait → InOneWindow minute duration lent less → ⊥)
   -- 16: "no wait fits"
-  pub no-wait : (minute duration : ℕ) (lent : List ℕ) → plan minute duration lent .decline ≡ Decline.NoWait
-      → (wait : ℕ) → wait < week → InOneWindow minute duration lent wait → ⊥
+  pub no-wait : answer .decline ≡ Decline.NoWait → (wait : ℕ) → wait < week → InOneWindow minute duration lent wait → ⊥
   -- "any of these numbers out of range": 15 then, and only then
-  pub out-of-range : (minute duration : ℕ) (lent : List ℕ) → inRangeOf minute duration lent ≡ false → plan minute duration lent .decline ≡ Decline.Hours
-  pub only-then : (minute duration : ℕ) (lent : List ℕ) → plan minute duration lent .decline ≡ Decline.Hours → inRangeOf minute duration lent ≡ false
+  pub out-of-range : inRangeOf minute duration lent ≡ false → answer .decline ≡ Decline.Hours
+  pub only-then : answer .decline ≡ Decline.Hours → inRangeOf minute duration lent ≡ false
   -- beside a decline the wait is 0 (ours)
-  pub beside : (minute duration : ℕ) (lent : List ℕ) → (plan minute duration lent .decline ≡ Decline.Accepted → ⊥) → plan minute duration lent .wait ≡ 0
+  pub beside : (answer .decline ≡ Decline.Accepted → ⊥) → answer .wait ≡ 0
 
 pub record PlanLaws : Type 0 where
   -- "One of 10,080 holds every minute"
@@ -49,7 +45,6 @@ pub record PlanLaws : Type 0 where
   -- the minutes between, though it "may run past the end of the week", and none of those after its last
   pub its-minutes : (start length k : ℕ) → start < week → length ≤ week → k < length → heldOf (window start length) ((start + k) % week) ≡ true
   pub no-others : (start length k : ℕ) → start < week → length ≤ k → k < week → heldOf (window start length) ((start + k) % week) ≡ false
-  -- the plan is as W-201 asks, and no other planner is
-  pub plans : Plans planOf
-  pub no-other-plans : (plan : ℕ → ℕ → List ℕ → Planned) → Plans plan
-      → (minute duration : ℕ) (lent : List ℕ) → plan minute duration lent ≡ planOf minute duration lent
+  -- every plan is as W-201 asks, and no other answer is
+  pub plans : (minute duration : ℕ) (lent : List ℕ) → Plans minute duration lent (planOf minute duration lent)
+  pub no-other : (minute duration : ℕ) (lent : List ℕ) (answer : Planned) → Plans minute duration lent answer → answer ≡ planOf minute duration lent
