@@ -9,9 +9,10 @@ use Rattle.geometry.specs.declared.banks.Geometry.{Geometry}
 use Rattle.words.specs.declared.decline.Decline.{Decline}
 use Rattle.words.specs.Decline.{acceptedOf, firstOf}
 use Rattle.device.specs.declared.record.Device.{Device}
-use Rattle.access.specs.declared.store.Stored.{Stored}
+use Rattle.device.specs.declared.answer.Answer.{Answer}
 use Rattle.access.specs.declared.store.RegisterRead.{RegisterRead}
-use Rattle.device.specs.Record.{registerOf, withCon, running}
+use Rattle.device.specs.Builders.{withCon, withStored}
+use Rattle.device.specs.Record.{registerOf, running}
 use Rattle.opening.specs.Opening.{openingOf}
 use Rattle.fields.specs.Fields.{wantedOf, keyNextOf, pwpTakesOf, bwpTakesOf, con2TakesOf}
 use Rattle.launch.specs.ConStore.{conStoreOf}
@@ -36,33 +37,29 @@ dataAfter quad r w =
 -- the store, and else stays"; a key store moves the key step, "Any other accepted store sets it to 0 afterwards"
 unfoldable pub appliedOf : Device → ℕ → ℕ → Device
 appliedOf d r w =
-    record {
-      nvmcon = d .nvmcon;
-      nvmkey = d .nvmkey;
-      nvmaddr = pick (eqb r 2) w (d .nvmaddr);
-      nvmdata = dataAfter (d .nvmdata) r w;
-      nvmsrcaddr = pick (eqb r 7) w (d .nvmsrcaddr);
-      nvmpwp = record { 0 = pick (eqb r 8) (mergeOf (pwpTakesOf d) w (d .nvmpwp .0)) (d .nvmpwp .0) };
-      nvmbwp = record { 0 = pick (eqb r 9) (mergeOf (bwpTakesOf d) w (d .nvmbwp .0)) (d .nvmbwp .0) };
-      nvmcon2 = record { 0 = pick (eqb r 10) (mergeOf (con2TakesOf d) w (d .nvmcon2 .0)) (d .nvmcon2 .0) };
-      keystep = pick (eqb r 1) (keyNextOf (d .keystep) w) 0;
-      step = d .step;
-    }
+    withStored d
+    (pick (eqb r 2) w (d .nvmaddr))
+    (dataAfter (d .nvmdata) r w)
+    (pick (eqb r 7) w (d .nvmsrcaddr))
+    (pick (eqb r 8) (mergeOf (pwpTakesOf d) w (d .nvmpwp .0)) (d .nvmpwp .0))
+    (pick (eqb r 9) (mergeOf (bwpTakesOf d) w (d .nvmbwp .0)) (d .nvmbwp .0))
+    (pick (eqb r 10) (mergeOf (con2TakesOf d) w (d .nvmcon2 .0)) (d .nvmcon2 .0))
+    (pick (eqb r 1) (keyNextOf (d .keystep) w) 0)
 
-abbrev pub accepted : Device → Bool → Stored
+abbrev pub accepted : Device → Bool → Answer
 accepted d event = record { decline = Decline.Accepted; device = d; event = event }
 
 -- a store of the wanted value w that is not declined
-abbrev pub storeWanted : Geometry → Device → ℕ → ℕ → Stored
+abbrev pub storeWanted : Geometry → Device → ℕ → ℕ → Answer
 storeWanted g d r w =
     pick (eqb r 0) (accepted (withCon d (conStoreOf g d w .nvmcon) 0 (d .step)) (conStoreOf g d w .event))
     (accepted (appliedOf d r w) false)
 
-unfoldable pub storeAcceptedOf : Geometry → Device → ℕ → ℕ → ℕ → Stored
+unfoldable pub storeAcceptedOf : Geometry → Device → ℕ → ℕ → ℕ → Answer
 storeAcceptedOf g d r form value = storeWanted g d r (wantedOf form (registerOf d r) value)
 
 -- a store; where it is declined the device is as before
-unfoldable pub storeOf : Geometry → Device → ℕ → ℕ → ℕ → Stored
+unfoldable pub storeOf : Geometry → Device → ℕ → ℕ → ℕ → Answer
 storeOf g d r form value =
     pick (acceptedOf (storeDeclineOf g d r form)) (storeAcceptedOf g d r form value)
     (record { decline = storeDeclineOf g d r form; device = d; event = false })

@@ -2,6 +2,8 @@
 ghost use mathlib.Core.Path.{_≡_};
 ghost use Rattle.geometry.specs.Banks.{InRange};
 ghost use Rattle.access.specs.Store.{hasFormOf, storeDeclineOf, appliedOf, storeAcceptedOf, storeOf, readDeclineOf, registerReadOf};
+use device::answer::Answer;
+use device::builders::with_con;
 use device::record::Device;
 use device::record::register;
 use device::registers::Nvmbwp;
@@ -20,13 +22,6 @@ use opening::opening::opening;
 use words::decline::Decline;
 use words::word::has;
 use words::word::merge;
-
-// The answer to a store. Where it is declined the device is as before and there is no event.
-pub struct Stored {
-    pub decline: Decline,
-    pub device: Device,
-    pub event: bool,
-}
 
 // The answer to a register read. Where it is declined the device is as before and the value is 0.
 pub struct RegisterRead {
@@ -99,24 +94,20 @@ fn applied(d: Device, number: u32, w: u32) -> Device
 }
 
 // A store that is not declined. No call of the device: its callers judge the declines first.
-pub fn store_accepted(g: Geometry, d: Device, number: u32, form: u32, value: u32) -> Stored
+pub fn store_accepted(g: Geometry, d: Device, number: u32, form: u32, value: u32) -> Answer
     requires { ⌜ InRange g ⌝ }
     ensures { λ r. ⌜ r ≡ storeAcceptedOf g d number form value ⌝ }
 {
     let w = wanted(form, register(d, number), value);
     if number == 0 {
         let l = con_store(g, d, w);
-        let mut after = d;
-        let nvmcon = Nvmcon::new(l.nvmcon);
-        after.keystep = 0;
-        after.nvmcon = nvmcon;
-        return Stored {
+        return Answer {
             decline: Decline::Accepted,
-            device: after,
+            device: with_con(d, l.nvmcon, 0, d.step),
             event: l.event,
         };
     }
-    Stored {
+    Answer {
         decline: Decline::Accepted,
         device: applied(d, number, w),
         event: false,
@@ -124,14 +115,14 @@ pub fn store_accepted(g: Geometry, d: Device, number: u32, form: u32, value: u32
 }
 
 // A store of a form and a value to a register.
-pub fn store(g: Geometry, d: Device, number: u32, form: u32, value: u32) -> Stored
+pub fn store(g: Geometry, d: Device, number: u32, form: u32, value: u32) -> Answer
     ensures { λ r. ⌜ r ≡ storeOf g d number form value ⌝ }
 {
     let decline = store_decline(g, d, number, form);
     if decline.is_accepted() {
         return store_accepted(g, d, number, form, value);
     }
-    Stored {
+    Answer {
         decline,
         device: d,
         event: false,
@@ -157,12 +148,10 @@ pub fn register_read(g: Geometry, d: Device, number: u32) -> RegisterRead
 {
     let decline = read_decline(g, d, number);
     if decline.is_accepted() {
-        let mut shut = d;
-        shut.keystep = 0;
         return RegisterRead {
             decline,
             value: register(d, number),
-            device: shut,
+            device: with_con(d, d.nvmcon.0, 0, d.step),
         };
     }
     RegisterRead {

@@ -7,13 +7,13 @@ use conformance_io::changes::with_changes;
 use conformance_io::records::device_of;
 use conformance_io::records::geometry_of;
 use conformance_io::records::with_device;
-use flash::step::Stepped;
+use device::answer::Answer as StepAnswer;
 use flash::step::step;
 use resets::reset::Restarted;
 use resets::reset::reset;
 
 // What a step gives but for the changes.
-fn stepped(given: Stepped) -> Answer
+fn stepped(given: StepAnswer) -> Answer
     ensures { λ r. ⌜ r .count ≤ 15 ⌝ }
 {
     let decline = given.decline;

@@ -11,8 +11,8 @@ use conformance_io::records::geometry_of;
 use conformance_io::records::with_device;
 use device::record::Device;
 use geometry::banks::Geometry;
+use update::turn::Turned;
 use update_start::start::start;
-use update_turn::turn::Turned;
 use update_turn::turn::turn;
 
 pub fn update_start_answer(front: [u32; 20], one: &[u32], two: &[u32], image: &[u32]) -> Answer

@@ -17,8 +17,8 @@ use crate::updates::Ended;
 use crate::updates::restart;
 use crate::updates::run_whole;
 use crate::updates::turn_at;
+use device::builders::power_on;
 use device::record::Device;
-use device::record::power_on;
 use geometry::banks::Geometry;
 use update_start::start::start;
 

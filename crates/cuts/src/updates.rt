@@ -5,7 +5,7 @@ use device::registers::Nvmcon;
 use geometry::banks::Geometry;
 use resets::reset::reset;
 use start_up::start_up::start_up;
-use update_turn::turn::Turned;
+use update::turn::Turned;
 use update_turn::turn::turn;
 use words::word::has;
 

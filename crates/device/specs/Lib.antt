@@ -1,2 +1,4 @@
 pub mod Registers
 pub mod Record
+pub mod Builders
+pub mod State

@@ -1,13 +1,11 @@
 -- "The device record holds eleven registers, the key step (0 to 3) and the step number". Assumes nothing.
 use Prim.Native.Nat.{ℕ, _%_}
 use mathlib.Core.Bool.{Bool}
-use mathlib.Core.List.{[], _∷_}
 use lib.Dec.{eqb}
-use lib.ListN.{getD}
 use Rattle.words.specs.Word.{pick, hasOf}
 use Rattle.words.specs.Quad.{wordAt}
 use Rattle.device.specs.declared.record.Device.{Device}
-use Rattle.device.specs.Registers.{resets, WR, PFSWAP, BFSWAP}
+use Rattle.device.specs.Registers.{WR, PFSWAP, BFSWAP}
 
 -- a register by its number, and 0 where there is none
 unfoldable pub registerOf : Device → ℕ → ℕ
@@ -23,38 +21,6 @@ registerOf d r =
     (pick (eqb r 8) (d .nvmpwp .0)
     (pick (eqb r 9) (d .nvmbwp .0)
     (pick (eqb r 10) (d .nvmcon2 .0) 0))))))))))
-
--- "power-on gives all reset values": the device then, before the comparison of the banks
-abbrev pub powerOn : Device
-powerOn =
-    record {
-      nvmcon = record { 0 = getD resets 0 0 };
-      nvmkey = getD resets 1 0;
-      nvmaddr = getD resets 2 0;
-      nvmdata = getD resets 3 0 ∷ getD resets 4 0 ∷ getD resets 5 0 ∷ getD resets 6 0 ∷ [];
-      nvmsrcaddr = getD resets 7 0;
-      nvmpwp = record { 0 = getD resets 8 0 };
-      nvmbwp = record { 0 = getD resets 9 0 };
-      nvmcon2 = record { 0 = getD resets 10 0 };
-      keystep = 0;
-      step = 0;
-    }
-
--- the device with another NVMCON, key step and step number
-abbrev pub withCon : Device → ℕ → ℕ → ℕ → Device
-withCon d con keystep step =
-    record {
-      nvmcon = record { 0 = con };
-      nvmkey = d .nvmkey;
-      nvmaddr = d .nvmaddr;
-      nvmdata = d .nvmdata;
-      nvmsrcaddr = d .nvmsrcaddr;
-      nvmpwp = d .nvmpwp;
-      nvmbwp = d .nvmbwp;
-      nvmcon2 = d .nvmcon2;
-      keystep = keystep;
-      step = step;
-    }
 
 -- the bits of NVMCON that other rules ask for
 abbrev pub running : Device → Bool

@@ -1,3 +1,5 @@
-// The device record: its registers with their bits, masks and reset values.
+// The device record: its registers with their bits, masks and reset values, and what is built of it.
+pub mod answer;
+pub mod builders;
 pub mod record;
 pub mod registers;

@@ -1,11 +1,10 @@
 // The device record.
 ghost use mathlib.Core.Path.{_≡_};
-ghost use Rattle.device.specs.Record.{registerOf, powerOn};
+ghost use Rattle.device.specs.Record.{registerOf};
 use crate::registers::Nvmbwp;
 use crate::registers::Nvmcon;
 use crate::registers::Nvmcon2;
 use crate::registers::Nvmpwp;
-use crate::registers::reset_value;
 
 // The eleven registers, the key step and the step number of the running operation.
 #[repr(C)]
@@ -39,32 +38,5 @@ pub fn register(d: Device, number: u32) -> u32
         9 => d.nvmbwp.0,
         10 => d.nvmcon2.0,
         _ => 0,
-    }
-}
-
-// The device after power-on, before the comparison of the banks.
-pub fn power_on() -> Device
-    ensures { λ r. ⌜ r ≡ powerOn ⌝ }
-{
-    let nvmcon = Nvmcon::new(reset_value(0));
-    let nvmpwp = Nvmpwp::new(reset_value(8));
-    let nvmbwp = Nvmbwp::new(reset_value(9));
-    let nvmcon2 = Nvmcon2::new(reset_value(10));
-    Device {
-        nvmcon,
-        nvmkey: reset_value(1),
-        nvmaddr: reset_value(2),
-        nvmdata: [
-            reset_value(3),
-            reset_value(4),
-            reset_value(5),
-            reset_value(6),
-        ],
-        nvmsrcaddr: reset_value(7),
-        nvmpwp,
-        nvmbwp,
-        nvmcon2,
-        keystep: 0,
-        step: 0,
     }
 }

@@ -1,19 +1,20 @@
 -- What an accepted step tells: the geometry is in range, the lengths fit, the device is possible, what runs.
 -- Assumes nothing.
 use mathlib.Core.Path.{_≡_, refl}
-use mathlib.Core.Bool.{true, not}
+use mathlib.Core.Bool.{Bool, true, not}
 use mathlib.Core.List.{[], _∷_}
-use Prim.Native.Nat.{ℕ}
+use Prim.Native.Nat.{ℕ, _+_}
 use lib.Dec.{eqb, ltb}
 use borrow.Author.Tests.{ltb-true}
 use Rattle.words.specs.Word.{hasOf}
-use Rattle.words.proofs.PickLaws.{and-both}
+use Rattle.words.proofs.PickLaws.{pick-both, and-both}
 use Rattle.geometry.specs.declared.banks.Geometry.{Geometry}
 use Rattle.words.specs.declared.decline.Decline.{Decline}
 use Rattle.geometry.specs.Banks.{InRange}
 use Rattle.words.specs.Decline.{acceptedOf}
 use Rattle.words.proofs.DeclineLaws.{held, neither}
 use Rattle.device.specs.declared.record.Device.{Device}
+use Rattle.device.specs.declared.answer.Answer.{Answer}
 use Rattle.device.specs.Registers.{WRERR, LVDERR}
 use Rattle.device.specs.Record.{running, opOf}
 use Rattle.operation.specs.Operation.{beginsOf, lengthOf}
@@ -22,7 +23,15 @@ use Rattle.opening.specs.Opening.{openingOf}
 use Rattle.opening.proofs.PossibleLaws.{possible}
 use Rattle.opening.proofs.OpeningLaws.{Ready, ready}
 use Rattle.flash.specs.Effect.{Runs}
-use Rattle.flash.specs.Step.{stepDeclineOf}
+use Rattle.flash.specs.Step.{stepDeclineOf, advanceOf}
+
+-- a step that is not declined answers so
+pub advance-accepts : (g : Geometry) (d : Device) (aborts : Bool) → advanceOf g d aborts .decline ≡ Decline.Accepted
+unfolding advanceOf
+advance-accepts g d aborts = pick-both P aborts refl (pick-both P (eqb (d .step + 1) (lengthOf g (opOf d))) refl refl)
+  where
+    P : Answer → Type 0
+    P a = a .decline ≡ Decline.Accepted
 
 module _ (g : Geometry) (d : Device) where
   -- an operation that runs on a possible device

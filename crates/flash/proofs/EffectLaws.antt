@@ -1,6 +1,6 @@
 -- The quad of a running operation's next step lies in its window, and so in its bank, for every operation and size.
 -- Assumes nothing.
-use mathlib.Core.Path.{_≡_, refl, sym, ap, _∙_}
+use mathlib.Core.Path.{_≡_, refl, sym, _∙_}
 use mathlib.Core.Bool.{Bool, true, false, not}
 use mathlib.Core.List.{List}
 use Prim.Native.Nat.{ℕ, zero, suc, _+_, _-_, _*_, _%_, _^_, _≤_, _<_}
@@ -9,7 +9,7 @@ use lib.Dec.{eqb, leb, ltb}
 use lib.ListN.{length}
 use borrow.Author.Tests.{le-ltb, lt-ltb, ne-eqb, ltb-true, ltb-false, leb-true}
 use Rattle.words.specs.Word.{pick}
-use Rattle.words.specs.Quad.{isBlankOf}
+use Rattle.words.specs.Quad.{quadAt, isBlankOf}
 use Rattle.words.proofs.PickLaws.{pick-both, and-both}
 use Rattle.words.proofs.BitLaws.{true-not-false}
 use Rattle.geometry.specs.declared.banks.Geometry.{Geometry}
@@ -23,7 +23,9 @@ use Rattle.device.specs.Record.{opOf, bfswap, pfswap}
 use Rattle.protection.specs.Protection.{pwpOf}
 use Rattle.operation.specs.Operation.{unitOf, targetOf, pageProtectedOf, targetBeginsOf, beginsAtOf, lengthOf}
 use Rattle.flash.specs.declared.effect.Effect.{Effect}
-use Rattle.flash.specs.Effect.{Runs, regionSteps, stepAtOf, stepLocationOf, blockedOf, sourceWordOf, sourceFitsOf, oldQuadOf, effectAtOf, effectOf}
+use Rattle.device.specs.State.{State, bankOf}
+use Rattle.flash.specs.Write.{Fits}
+use Rattle.flash.specs.Effect.{Runs, regionSteps, stepAtOf, stepLocationOf, blockedOf, sourceWordOf, sourceFitsOf, effectAtOf, effectOf}
 
 module _ (g : Geometry) (ok : InRange g) where
   -- no operation has more steps than both regions
@@ -117,31 +119,39 @@ unfolding sourceFitsOf
 source-room d sram h = leb-true _ _ (and-both (eqb (d .nvmsrcaddr % 4) 0) (leb (sourceWordOf d + 4) sram) h .1)
 
 -- every effect works in the bank and on the quad of the next step
-effect-place : (g : Geometry) (d : Device) (one two sram : List ℕ)
-    → (effectOf g d one two sram .second ≡ inSecondOf (stepLocationOf g d) (bfswap d) (pfswap d))
-    × (effectOf g d one two sram .quad ≡ quadIndexOf g (stepLocationOf g d))
+effect-place : (g : Geometry) (s : State) (sram : List ℕ) → let l = stepLocationOf g (s .device) in
+    (effectOf g s sram .write .second ≡ inSecondOf l (bfswap (s .device)) (pfswap (s .device))) × (effectOf g s sram .write .quad ≡ quadIndexOf g l)
 unfolding effectOf effectAtOf
-effect-place g d one two sram =
-    let l = stepLocationOf g d in
-    let s = inSecondOf l (bfswap d) (pfswap d) in
-    let q = quadIndexOf g l in
+effect-place g s sram =
     pick-both P (blockedOf g d l) (refl, refl)
     (pick-both P (ltb 3 (opOf d)) (refl, refl)
-    (pick-both P (isBlankOf (oldQuadOf one two s q))
+    (pick-both P (isBlankOf (quadAt (bankOf s second) (quadIndexOf g l)))
     (pick-both P (eqb (opOf d) 2) (refl, refl) (pick-both P (sourceFitsOf d (length sram)) (refl, refl) (refl, refl)))
     (refl, refl)))
   where
+    d : Device
+    d = s .device
+
+    l : Location
+    l = stepLocationOf g (s .device)
+
+    second : Bool
+    second = inSecondOf (stepLocationOf g (s .device)) (bfswap (s .device)) (pfswap (s .device))
+
     P : Effect → Type 0
-    P e = (e .second ≡ inSecondOf (stepLocationOf g d) (bfswap d) (pfswap d)) × (e .quad ≡ quadIndexOf g (stepLocationOf g d))
+    P e = (e .write .second ≡ second) × (e .write .quad ≡ quadIndexOf g l)
 
-pub effect-second : (g : Geometry) (d : Device) (one two sram : List ℕ)
-    → effectOf g d one two sram .second ≡ inSecondOf (stepLocationOf g d) (bfswap d) (pfswap d)
-effect-second g d one two sram = effect-place g d one two sram .0
+pub effect-second : (g : Geometry) (s : State) (sram : List ℕ)
+    → effectOf g s sram .write .second ≡ inSecondOf (stepLocationOf g (s .device)) (bfswap (s .device)) (pfswap (s .device))
+effect-second g s sram = effect-place g s sram .0
 
-pub effect-quad : (g : Geometry) (d : Device) (one two sram : List ℕ) → effectOf g d one two sram .quad ≡ quadIndexOf g (stepLocationOf g d)
-effect-quad g d one two sram = effect-place g d one two sram .1
+pub effect-quad : (g : Geometry) (s : State) (sram : List ℕ) → effectOf g s sram .write .quad ≡ quadIndexOf g (stepLocationOf g (s .device))
+effect-quad g s sram = effect-place g s sram .1
 
-pub effect-in-bank : (g : Geometry) (d : Device) (one two sram : List ℕ) (e : Effect) → Runs g d → e ≡ effectOf g d one two sram
-    → 4 * e .quad + 4 ≤ bankWordsOf g
-effect-in-bank g d one two sram e runs same =
-    rw (ap (λ (x : Effect). x .quad) same ∙ effect-quad g d one two sram) (runs-in-bank g d runs)
+-- so it lies in both banks
+pub effect-in-bank : (g : Geometry) (s : State) (sram : List ℕ) → Runs g (s .device) → 4 * effectOf g s sram .write .quad + 4 ≤ bankWordsOf g
+effect-in-bank g s sram runs = rw (effect-quad g s sram) (runs-in-bank g (s .device) runs)
+
+pub effect-fits : (g : Geometry) (s : State) (sram : List ℕ) → Runs g (s .device) → (length (s .one) ≡ bankWordsOf g) × (length (s .two) ≡ bankWordsOf g)
+    → Fits (s .one) (s .two) (effectOf g s sram .write)
+effect-fits g s sram runs (first, other) writes = let h = effect-in-bank g s sram runs in (omega arith, omega arith)

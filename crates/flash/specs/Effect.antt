@@ -12,6 +12,7 @@ use Rattle.map.specs.declared.windows.Location.{Location}
 use Rattle.geometry.specs.Banks.{InRange}
 use Rattle.map.specs.Windows.{located, pageOf, quadIndexOf, inSecondOf}
 use Rattle.device.specs.declared.record.Device.{Device}
+use Rattle.device.specs.State.{State, bankOf}
 use Rattle.device.specs.Record.{opOf, bfswap, pfswap}
 use Rattle.protection.specs.Protection.{bootProtectedOf}
 use Rattle.operation.specs.Operation.{targetOf, beginsOf, lengthOf}
@@ -52,12 +53,9 @@ sourceWordOf d = (d .nvmsrcaddr + 16 * d .step) / 4
 unfoldable pub sourceFitsOf : Device → ℕ → Bool
 sourceFitsOf d sram = eqb (d .nvmsrcaddr % 4) 0 && leb (sourceWordOf d + 4) sram
 
-abbrev pub oldQuadOf : List ℕ → List ℕ → Bool → ℕ → List ℕ
-oldQuadOf one two second quad = pick second (quadAt two quad) (quadAt one quad)
-
 abbrev pub effect : Bool → Bool → Bool → ℕ → List ℕ → Effect
 effect aborts writes second quad intended =
-    record { aborts = aborts; writes = writes; second = second; quad = quad; intended = intended }
+    record { aborts = aborts; write = record { writes = writes; second = second; quad = quad; words = intended } }
 
 -- "Erasing sets all ones. Programming needs four words of all ones (house), else it aborts." Where the old quad is given
 unfoldable pub effectAtOf : Device → List ℕ → Bool → ℕ → List ℕ → Effect
@@ -69,10 +67,11 @@ effectAtOf d sram second quad old =
     (effect true false second quad blankQuad)))
     (effect true false second quad blankQuad))
 
-unfoldable pub effectOf : Geometry → Device → List ℕ → List ℕ → List ℕ → Effect
-effectOf g d one two sram =
+unfoldable pub effectOf : Geometry → State → List ℕ → Effect
+effectOf g s sram =
+    let d = s .device in
     let l = stepLocationOf g d in
     let second = inSecondOf l (bfswap d) (pfswap d) in
     let quad = quadIndexOf g l in
     pick (blockedOf g d l) (effect false false second quad blankQuad)
-    (effectAtOf d sram second quad (oldQuadOf one two second quad))
+    (effectAtOf d sram second quad (quadAt (bankOf s second) quad))

@@ -4,10 +4,12 @@ ghost use mathlib.Core.Path.{_≡_};
 ghost use Prim.Native.Nat.{_+_, _*_, _≤_};
 ghost use lib.ListN.{length};
 ghost use Rattle.words.specs.Word.{pick};
-ghost use Rattle.words.specs.Quad.{putQuad};
+ghost use Rattle.words.specs.Quad.{quadAt};
 ghost use Rattle.geometry.specs.Banks.{InRange, bankWordsOf};
+ghost use Rattle.device.specs.State.{lent};
 ghost use Rattle.map.specs.Windows.{windowBytesOf, located};
-ghost use Rattle.flash.specs.Effect.{Runs, stepLocationOf, blockedOf, sourceFitsOf, sourceWordOf, oldQuadOf, effect, effectAtOf, effectOf};
+ghost use Rattle.flash.specs.Effect.{Runs, stepLocationOf, blockedOf, sourceFitsOf, sourceWordOf, effect, effectAtOf, effectOf};
+use crate::write::Write;
 use device::record::Device;
 use device::registers::Nvmcon;
 use geometry::banks::Geometry;
@@ -19,18 +21,14 @@ use operation::operation::op;
 use operation::operation::target;
 use protection::protection::is_boot_protected;
 use words::quad::is_blank;
-use words::quad::put_quad;
 use words::quad::quad_at;
 use words::quad::quad_from;
 use words::word::has;
 
-// Whether the step aborts, or else whether it writes; the bank and the quad that it works on; what it intends to write.
+// Whether the step aborts, and what it writes; the bank and the quad are those that it works on, also where it writes nothing.
 pub struct Effect {
     pub aborts: bool,
-    pub writes: bool,
-    pub second: bool,
-    pub quad: u32,
-    pub intended: [u32; 4],
+    pub write: Write,
 }
 
 fn inside(program: bool, upper: bool, offset: u32) -> Location
@@ -52,7 +50,7 @@ pub fn step_location(g: Geometry, d: Device) -> Location
     let op = op(d);
     let step = d.step;
     if op < 5 {
-        let t = target(g, d);
+        let t = target(g, op, d.nvmaddr);
         return inside(t.program, t.upper, t.offset + 16 * step);
     }
     if op == 5 {
@@ -102,7 +100,7 @@ fn source_fits(d: Device, sram: usize) -> bool
 // A quad as it is before the step.
 pub fn old_quad(one: &[u32], two: &[u32], second: bool, quad: u32) -> [u32; 4]
     requires { ⌜ (4 * quad + 4 ≤ length (now one)) × (4 * quad + 4 ≤ length (now two)) ⌝ }
-    ensures { λ r. ⌜ r ≡ oldQuadOf (now (one .entry)) (now (two .entry)) second quad ⌝ }
+    ensures { λ r. ⌜ r ≡ quadAt (pick second (now (two .entry)) (now (one .entry))) quad ⌝ }
 {
     if second {
         return quad_at(two, quad as usize);
@@ -136,20 +134,20 @@ fn effect_at(d: Device, sram: &[u32], second: bool, quad: u32, old: [u32; 4]) ->
 fn doing(aborts: bool, writes: bool, second: bool, quad: u32, intended: [u32; 4]) -> Effect
     ensures { λ r. ⌜ r ≡ effect aborts writes second quad intended ⌝ }
 {
-    Effect {
-        aborts,
+    let write = Write {
         writes,
         second,
         quad,
-        intended,
-    }
+        words: intended,
+    };
+    Effect { aborts, write }
 }
 
 // What the next step of the running operation does.
 pub fn next_effect(g: Geometry, d: Device, one: &[u32], two: &[u32], sram: &[u32]) -> Effect
     requires { ⌜ Runs g d ⌝ }
     requires { ⌜ (length (now one) ≡ bankWordsOf g) × (length (now two) ≡ bankWordsOf g) ⌝ }
-    ensures { λ r. ⌜ r ≡ effectOf g d (now (one .entry)) (now (two .entry)) (now (sram .entry)) ⌝ }
+    ensures { λ r. ⌜ r ≡ effectOf g (lent d (one .entry) (two .entry)) (now (sram .entry)) ⌝ }
 {
     let l = step_location(g, d);
     let bfswap = has(d.nvmcon.0, Nvmcon::BFSWAP);
@@ -160,16 +158,4 @@ pub fn next_effect(g: Geometry, d: Device, one: &[u32], two: &[u32], sram: &[u32
         return doing(false, false, second, quad, [0xFFFF_FFFF; 4]);
     }
     effect_at(d, sram, second, quad, old_quad(one, two, second, quad))
-}
-
-// Writes a quad of one of the two banks.
-pub fn write(one: &mut [u32], two: &mut [u32], second: bool, quad: u32, words: [u32; 4])
-    requires { ⌜ (4 * quad + 4 ≤ length (now one)) × (4 * quad + 4 ≤ length (now two)) ⌝ }
-    ensures { λ _. ⌜ (now (one .exit) ≡ pick second (now (one .entry)) (putQuad (now (one .entry)) quad words)) × (now (two .exit) ≡ pick second (putQuad (now (two .entry)) quad words) (now (two .entry))) ⌝ }
-{
-    if second {
-        put_quad(two, quad as usize, words);
-        return;
-    }
-    put_quad(one, quad as usize, words);
 }

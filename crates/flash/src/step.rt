@@ -1,13 +1,16 @@
 // One step of the running operation.
-// What asks for Runs, or for room in the banks, is no call of the device: step decides its decline first.
+// What asks for Runs is no call of the device: its callers decide their decline first.
 ghost use mathlib.Core.Path.{_≡_};
-ghost use Prim.Native.Nat.{_+_, _*_, _≤_};
 ghost use lib.ListN.{length};
 ghost use Rattle.geometry.specs.Banks.{bankWordsOf};
-ghost use Rattle.flash.specs.Effect.{Runs, effectOf};
-ghost use Rattle.flash.specs.Step.{stepDeclineOf, advanceOf, after, oneAfter, twoAfter, stepAcceptedOf, stepOf};
+ghost use Rattle.device.specs.State.{lent, leaves};
+ghost use Rattle.flash.specs.Effect.{Runs};
+ghost use Rattle.flash.specs.Step.{stepDeclineOf, advanceOf, stepEffectOf, stepOf};
 use crate::effect::next_effect;
-use crate::effect::write;
+use crate::write::Write;
+use crate::write::apply;
+use device::answer::Answer;
+use device::builders::with_con;
 use device::record::Device;
 use device::registers::Nvmcon;
 use geometry::banks::Geometry;
@@ -19,17 +22,10 @@ use words::decline::Decline;
 use words::word::clear;
 use words::word::has;
 
-// The answer to a step. Where it is declined the device and the banks are as before and there is no event.
-pub struct Stepped {
-    pub decline: Decline,
-    pub device: Device,
-    pub event: bool,
-}
-
-// The device after a step, and whether there was an event.
-pub struct Advanced {
-    pub device: Device,
-    pub event: bool,
+// What a step answers, and what it writes.
+pub struct StepEffect {
+    pub answer: Answer,
+    pub write: Write,
 }
 
 fn step_decline(g: Geometry, d: Device, one: usize, two: usize, sram: usize) -> Decline
@@ -45,91 +41,60 @@ fn step_decline(g: Geometry, d: Device, one: usize, two: usize, sram: usize) -> 
     Decline::Accepted
 }
 
-// The device after a step that aborts or not.
-fn advance(g: Geometry, d: Device, aborts: bool) -> Advanced
+// The answer of a step that aborts or not.
+fn advance(g: Geometry, d: Device, aborts: bool) -> Answer
     requires { ⌜ Runs g d ⌝ }
     ensures { λ r. ⌜ r ≡ advanceOf g d aborts ⌝ }
 {
-    let mut device = d;
+    let con = d.nvmcon.0;
     let next = d.step + 1;
     if aborts {
-        let nvmcon = Nvmcon::new(clear(d.nvmcon.0, Nvmcon::WR));
-        device.nvmcon = nvmcon;
-        device.step = 0;
-        return Advanced {
-            device,
+        return Answer {
+            decline: Decline::Accepted,
+            device: with_con(d, clear(con, Nvmcon::WR), d.keystep, 0),
             event: true,
         };
     }
     if next == length(g, op(d)) {
-        let nvmcon = Nvmcon::new(clear(d.nvmcon.0, Nvmcon::WR + Nvmcon::WRERR));
-        device.nvmcon = nvmcon;
-        device.step = 0;
-        return Advanced {
-            device,
+        return Answer {
+            decline: Decline::Accepted,
+            device: with_con(d, clear(con, Nvmcon::WR + Nvmcon::WRERR), d.keystep, 0),
             event: true,
         };
     }
-    device.step = next;
-    Advanced {
-        device,
+    Answer {
+        decline: Decline::Accepted,
+        device: with_con(d, con, d.keystep, next),
         event: false,
     }
 }
 
-// Writes the quad where the step does.
-pub fn apply(
-    one: &mut [u32],
-    two: &mut [u32],
-    writes: bool,
-    second: bool,
-    quad: u32,
-    words: [u32; 4],
-)
-    requires { ⌜ (4 * quad + 4 ≤ length (now one)) × (4 * quad + 4 ≤ length (now two)) ⌝ }
-    ensures { λ _. ⌜ (now (one .exit) ≡ oneAfter (now (one .entry)) writes second quad words) × (now (two .exit) ≡ twoAfter (now (two .entry)) writes second quad words) ⌝ }
-{
-    if !writes {
-        return;
-    }
-    write(one, two, second, quad, words);
-}
-
 // A step that is not declined: one quad, ascending.
-pub fn step_accepted(
-    g: Geometry,
-    d: Device,
-    one: &mut [u32],
-    two: &mut [u32],
-    sram: &[u32],
-) -> Stepped
+pub fn step_effect(g: Geometry, d: Device, one: &[u32], two: &[u32], sram: &[u32]) -> StepEffect
     requires { ⌜ Runs g d ⌝ }
     requires { ⌜ (length (now one) ≡ bankWordsOf g) × (length (now two) ≡ bankWordsOf g) ⌝ }
-    ensures { λ r. ⌜ after (r .decline) (r .device) (now (one .exit)) (now (two .exit)) (r .event) ≡ stepAcceptedOf g d (now (one .entry)) (now (two .entry)) (effectOf g d (now (one .entry)) (now (two .entry)) (now (sram .entry))) ⌝ }
+    ensures { λ r. ⌜ r ≡ stepEffectOf g (lent d (one .entry) (two .entry)) (now (sram .entry)) ⌝ }
 {
     let e = next_effect(g, d, one, two, sram);
-    let words = e.intended;
-    apply(one, two, e.writes, e.second, e.quad, words);
-    let a = advance(g, d, e.aborts);
-    let device = a.device;
-    Stepped {
-        decline: Decline::Accepted,
-        device,
-        event: a.event,
-    }
+    let answer = advance(g, d, e.aborts);
+    let write = e.write;
+    StepEffect { answer, write }
 }
 
 // One step of the running operation.
-pub fn step(g: Geometry, d: Device, one: &mut [u32], two: &mut [u32], sram: &[u32]) -> Stepped
-    ensures { λ r. ⌜ after (r .decline) (r .device) (now (one .exit)) (now (two .exit)) (r .event) ≡ stepOf g d (now (one .entry)) (now (two .entry)) (now (sram .entry)) ⌝ }
+pub fn step(g: Geometry, d: Device, one: &mut [u32], two: &mut [u32], sram: &[u32]) -> Answer
+    ensures { λ r. ⌜ leaves r (one .exit) (two .exit) ≡ stepOf g (lent d (one .entry) (two .entry)) (now (sram .entry)) ⌝ }
 {
     let decline = step_decline(g, d, one.len(), two.len(), sram.len());
     if !decline.is_accepted() {
-        return Stepped {
+        return Answer {
             decline,
             device: d,
             event: false,
         };
     }
-    step_accepted(g, d, one, two, sram)
+    let e = step_effect(g, d, one, two, sram);
+    let write = e.write;
+    apply(one, two, write);
+    e.answer
 }

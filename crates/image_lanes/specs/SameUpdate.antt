@@ -3,7 +3,7 @@ use mathlib.Core.Path.{_≡_}
 use mathlib.Core.List.{List}
 use Prim.Native.Nat.{ℕ}
 use Rattle.geometry.specs.declared.banks.Geometry.{Geometry}
-use Rattle.machine.specs.Machine.{State}
+use Rattle.device.specs.State.{State}
 use Rattle.update.specs.PowerFail.{Words}
 use Rattle.update.specs.Start.{startOf}
 use Rattle.update.specs.Turn.{turnOf}

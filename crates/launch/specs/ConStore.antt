@@ -5,7 +5,8 @@ use Rattle.words.specs.Word.{pick, hasOf, mergeOf}
 use Rattle.geometry.specs.declared.banks.Geometry.{Geometry}
 use Rattle.device.specs.declared.record.Device.{Device}
 use Rattle.device.specs.Registers.{WR, WREN}
-use Rattle.device.specs.Record.{withCon, isOpen}
+use Rattle.device.specs.Builders.{withCon}
+use Rattle.device.specs.Record.{isOpen}
 use Rattle.fields.specs.Fields.{conTakesOf}
 use Rattle.launch.specs.declared.launch.Launched.{Launched}
 use Rattle.launch.specs.Launch.{launched, launchOf}

@@ -16,11 +16,12 @@ use Rattle.words.proofs.MaskLaws.{Within, merge-within, or-within, clear-within
 use Rattle.geometry.specs.declared.banks.Geometry.{Geometry}
 use Rattle.device.specs.declared.record.Device.{Device}
 use Rattle.device.specs.Registers.{WR, WRERR, LVDERR, BFSWAP, NVMERS}
-use Rattle.device.specs.Record.{powerOn, withCon, running, bfswap, opOf}
+use Rattle.device.specs.Builders.{powerOn, withCon}
+use Rattle.device.specs.Record.{running, bfswap, opOf}
 use Rattle.operation.specs.Operation.{beginsOf, lengthOf}
 use Rattle.opening.specs.Possible.{runningOf, possibleOf}
 use Rattle.opening.proofs.PossibleLaws.{Implemented, Possible, possible, possible-test, same-rows}
-use Rattle.flash.specs.declared.step.Advanced.{Advanced}
+use Rattle.device.specs.declared.answer.Answer.{Answer}
 use Rattle.flash.specs.Step.{advanced, advanceOf}
 use Rattle.resets.specs.Reset.{resetConOf, resetDeviceOf}
 
@@ -56,16 +57,18 @@ module _ (g : Geometry) (d : Device) (can : possibleOf g d ≡ true) (on : runni
   pub advance-possible : (aborts : Bool) → possibleOf g (advanceOf g d aborts .device) ≡ true
   unfolding advanceOf
   advance-possible aborts =
-      pick-both P aborts (rested (clearOf (d .nvmcon .0) WR) (clear-within 0xF0CF _ WR (was .rows .con)) (clear-bit 15 (d .nvmcon .0) WR ∙ and-false (bit 15 (d .nvmcon .0))))
+      pick-both P aborts (rested (clearOf (d .nvmcon .0) WR) (clear-within 0xF0CF _ WR (was .rows .con))
+      (clear-bit 15 (d .nvmcon .0) WR ∙ and-false (bit 15 (d .nvmcon .0))))
       (go (eqb (d .step + 1) (lengthOf g (opOf d))) refl)
     where
-      P : Advanced → Type 0
+      P : Answer → Type 0
       P a = possibleOf g (a .device) ≡ true
 
       go : (t : Bool) → eqb (d .step + 1) (lengthOf g (opOf d)) ≡ t
           → P (pick t (advanced (withCon d (clearOf (d .nvmcon .0) (WR + WRERR)) (d .keystep) 0) true)
           (advanced (withCon d (d .nvmcon .0) (d .keystep) (d .step + 1)) false))
-      go true e = rested (clearOf (d .nvmcon .0) 0xA000) (clear-within 0xF0CF _ 0xA000 (was .rows .con)) (clear-bit 15 (d .nvmcon .0) 0xA000 ∙ and-false (bit 15 (d .nvmcon .0)))
+      go true e = rested (clearOf (d .nvmcon .0) 0xA000) (clear-within 0xF0CF _ 0xA000 (was .rows .con))
+          (clear-bit 15 (d .nvmcon .0) 0xA000 ∙ and-false (bit 15 (d .nvmcon .0)))
       go false e = going e
 
 -- ---- a reset
@@ -127,7 +130,8 @@ module _ (g : Geometry) (d : Device) (can : possibleOf g d ≡ true) (kind : ℕ
 
   con-within : Within 0xF0CF con
   unfolding con Cleared
-  con-within = or-within 0xF0CF (resetConOf d kind) (pick swap BFSWAP 0) (cleared .0) (pick-both (Within 0xF0CF) swap (record { inside = refl }) (record { inside = refl }))
+  con-within = or-within 0xF0CF (resetConOf d kind) (pick swap BFSWAP 0) (cleared .0)
+      (pick-both (Within 0xF0CF) swap (record { inside = refl }) (record { inside = refl }))
 
   con-idle : hasOf con WR ≡ false
   unfolding con Cleared

@@ -11,7 +11,7 @@ use Rattle.words.proofs.BitLaws.{true-not-false}
 use Rattle.geometry.specs.declared.banks.Geometry.{Geometry}
 use Rattle.words.specs.Decline.{acceptedOf}
 use Rattle.device.specs.declared.record.Device.{Device}
-use Rattle.access.specs.declared.store.Stored.{Stored}
+use Rattle.device.specs.declared.answer.Answer.{Answer}
 use Rattle.access.specs.declared.store.RegisterRead.{RegisterRead}
 use Rattle.device.specs.Record.{bfswap}
 use Rattle.opening.specs.Possible.{possibleOf}
@@ -19,14 +19,15 @@ use Rattle.access.specs.Store.{storeDeclineOf, storeAcceptedOf, storeOf, readDe
 use Rattle.flash.proofs.AcceptedLaws.{step-ready}
 use Rattle.resets.specs.Reset.{comparedOf}
 use Rattle.resets.proofs.AcceptedLaws.{reset-ready}
-use Rattle.machine.specs.Machine.{Operation, State, state, left, answerOf, transitionOf, runOf, AllAccepted, BringsWord, BringWords, Sound}
+use Rattle.device.specs.State.{State, state}
+use Rattle.machine.specs.Machine.{Operation, answerOf, transitionOf, runOf, AllAccepted, BringsWord, BringWords, Sound}
 use Rattle.machine.specs.Machine.Operation.{store, registerRead, flashRead, step, reset}
 use Rattle.machine.proofs.StoreLaws.{store-possible, read-leaves-possible}
 use Rattle.machine.proofs.DeviceLaws.{advance-possible, reset-possible, reset-swap}
-use Rattle.machine.proofs.WriteLaws.{by-step, by-reset, writes-one-quad, first-length, other-length}
+use Rattle.machine.proofs.WriteLaws.{by-step, by-reset, writes-one-quad, bank-length}
 
 -- ---- what an accepted operation leaves, and what a declined one
-by-store : (g : Geometry) (d : Device) (r form value : ℕ) (P : Stored → Type 0)
+by-store : (g : Geometry) (d : Device) (r form value : ℕ) (P : Answer → Type 0)
     → (acceptedOf (storeDeclineOf g d r form) ≡ true → P (storeOf g d r form value))
     → (acceptedOf (storeDeclineOf g d r form) ≡ false → P (record { decline = storeDeclineOf g d r form; device = d; event = false }))
     → P (storeOf g d r form value)
@@ -52,7 +53,7 @@ by-read g d r P yes′ no′ = go (acceptedOf (readDeclineOf g d r)) refl
 pub store-answers : (g : Geometry) (d : Device) (r form value : ℕ) → acceptedOf (storeDeclineOf g d r form) ≡ true
     → acceptedOf (storeOf g d r form value .decline) ≡ true
 unfolding storeOf storeAcceptedOf
-store-answers g d r form value on = rw on (pick-both (λ (a : Stored). acceptedOf (a .decline) ≡ true) (eqb r 0) refl refl)
+store-answers g d r form value on = rw on (pick-both (λ (a : Answer). acceptedOf (a .decline) ≡ true) (eqb r 0) refl refl)
 
 read-answers : (g : Geometry) (d : Device) (r : ℕ) → acceptedOf (readDeclineOf g d r) ≡ true → acceptedOf (registerReadOf g d r .decline) ≡ true
 unfolding registerReadOf
@@ -67,19 +68,19 @@ transition-possible g s (registerRead r) w h =
     by-read g (s .device) r (λ a. possibleOf g (a .device) ≡ true) (read-leaves-possible g (s .device) r) (λ off. h)
 transition-possible g s (flashRead address) w h = h
 transition-possible g s (step sram) w h =
-    by-step g s sram (λ a. possibleOf g (a .device) ≡ true)
+    by-step g s sram (λ a. possibleOf g (a .state .device) ≡ true)
     (λ on. advance-possible g (s .device) h (step-ready g (s .device) _ _ _ on .2) _)
     (λ off. h)
 transition-possible g s (reset sram kind mask) w h =
-    by-reset g s sram kind mask (λ a. possibleOf g (a .device) ≡ true) (λ on. reset-possible g (s .device) h kind _) (λ off. h)
+    by-reset g s sram kind mask (λ a. possibleOf g (a .state .device) ≡ true) (λ on. reset-possible g (s .device) h kind _) (λ off. h)
 
 transition-sound : (g : Geometry) (s : State) (o : Operation) → BringsWord o → Sound g s → Sound g (transitionOf g s o)
 transition-sound g s o w h =
     let write = writes-one-quad g s o in
     record {
       possible = transition-possible g s o w (h .possible);
-      first = first-length g s (transitionOf g s o) write ∙ h .first;
-      other = other-length g s (transitionOf g s o) write ∙ h .other;
+      first = bank-length g s (transitionOf g s o) write false ∙ h .first;
+      other = bank-length g s (transitionOf g s o) write true ∙ h .other;
     }
 
 pub run-sound : (g : Geometry) (s : State) → Sound g s → (l : List Operation) → BringWords l → Sound g (runOf g s l)
@@ -112,15 +113,15 @@ declined-same g s (registerRead r) h =
     h
 declined-same g s (flashRead address) h = refl
 declined-same g s (step sram) h =
-    by-step g s sram (λ a. acceptedOf (a .decline) ≡ false → left a ≡ s) (λ on h. true-not-false h) (λ off h. refl) h
+    by-step g s sram (λ a. acceptedOf (a .decline) ≡ false → a .state ≡ s) (λ on h. true-not-false h) (λ off h. refl) h
 declined-same g s (reset sram kind mask) h =
-    by-reset g s sram kind mask (λ a. acceptedOf (a .decline) ≡ false → left a ≡ s) (λ on h. true-not-false h) (λ off h. refl) h
+    by-reset g s sram kind mask (λ a. acceptedOf (a .decline) ≡ false → a .state ≡ s) (λ on h. true-not-false h) (λ off h. refl) h
 
 -- ---- after a reset BFSWAP is the comparison
 pub compared : (g : Geometry) (s : State) (sram : List ℕ) (kind : ℕ) (mask : List ℕ) → acceptedOf (answerOf g s (reset sram kind mask)) ≡ true
     → let t = transitionOf g s (reset sram kind mask) in bfswap (t .device) ≡ comparedOf g (t .one) (t .two)
 compared g s sram kind mask =
     by-reset g s sram kind mask
-    (λ a. acceptedOf (a .decline) ≡ true → bfswap (a .device) ≡ comparedOf g (a .one) (a .two))
+    (λ a. acceptedOf (a .decline) ≡ true → bfswap (a .state .device) ≡ comparedOf g (a .state .one) (a .state .two))
     (λ on h. reset-swap g (s .device) (reset-ready g (s .device) _ _ _ kind on .possible) kind _)
     (λ off h. true-not-false (sym h ∙ off))

@@ -27,7 +27,8 @@ use Rattle.flash.specs.Effect.{stepLocationOf}
 use Rattle.flash.proofs.EffectLaws.{runs-room}
 use Rattle.reads.specs.Read.{secondAtOf}
 use Rattle.machine.specs.Protection.{isProgramPage, ofItsKind, isUpperPage, protectedPageOf}
-use Rattle.machine.specs.Machine.{Operation, State, bankOf, transitionOf, stepSecondOf, stepQuadOf, Keeps}
+use Rattle.device.specs.State.{State, bankOf}
+use Rattle.machine.specs.Machine.{Operation, transitionOf, stepSecondOf, stepQuadOf, Keeps}
 use Rattle.machine.proofs.WriteLaws.{Writes, writes-one-quad, one-quad, unwritten, bank-length}
 
 -- the words of quad offset / 16 lie in the page of the offset
@@ -112,7 +113,7 @@ module _ (g : Geometry) (s : State) (o : Operation) where
     Kept second = pageAt g (bankOf (transitionOf g s o) second) n ≡ pageAt g (bankOf s second) n
 
     -- in the bank of the step, whose quad is in no protected page
-    here : w .writes ≡ true → protectedPageOf g (s .device) (stepSecondOf g s) n ≡ true → Kept (stepSecondOf g s)
+    here : w .write .writes ≡ true → protectedPageOf g (s .device) (stepSecondOf g s) n ≡ true → Kept (stepSecondOf g s)
     here on p =
         by-words g n _ _ (bank-length g s (transitionOf g s o) w (stepSecondOf g s)) (λ k h. low k h (decLe (4 * stepQuadOf g s) (n * pageWordsOf g + k)))
       where
@@ -145,9 +146,9 @@ module _ (g : Geometry) (s : State) (o : Operation) where
     side false false same other p = same p
 
     kept : (second : Bool) → protectedPageOf g (s .device) second n ≡ true → Kept second
-    kept second p = written (w .writes) refl
+    kept second p = written (w .write .writes) refl
       where
-        written : (on : Bool) → w .writes ≡ on → Kept second
+        written : (on : Bool) → w .write .writes ≡ on → Kept second
         written true e =
             side second (stepSecondOf g s) (here e) (ap (λ (bank : List ℕ). pageAt g bank n) (one-quad g s (transitionOf g s o) w .other-bank)) p
         written false e = ap (λ (bank : List ℕ). pageAt g bank n) (unwritten g s (transitionOf g s o) w e second)

@@ -4,7 +4,7 @@
 use mathlib.Core.Path.{_≡_, refl, sym, ap, _∙_}
 use mathlib.Core.Bool.{Bool, true, false, _||_}
 use mathlib.Core.List.{List}
-use Prim.Native.Nat.{ℕ, zero, suc, _+_, _-_, _*_, _/_, _<_}
+use Prim.Native.Nat.{ℕ, zero, suc, _+_, _*_, _/_, _<_}
 use native.Mathlib.Nat.{not-suc-le-zero}
 use native.Mathlib.Decide.{decLe}
 use native.Mathlib.Omega.{arith}
@@ -12,7 +12,7 @@ use lib.Arith.{digits-div}
 use lib.Dec.{eqb}
 use borrow.Author.Tests.{not-true}
 use Rattle.words.specs.Word.{pick}
-use Rattle.words.specs.Quad.{blankQuad}
+use Rattle.words.specs.Quad.{quadAt, blankQuad}
 use Rattle.words.proofs.BitLaws.{true-not-false}
 use Rattle.geometry.specs.declared.banks.Geometry.{Geometry}
 use Rattle.map.specs.declared.windows.Location.{Location}
@@ -21,10 +21,12 @@ use Rattle.map.specs.Windows.{located, pageOf, quadIndexOf, inSecondOf}
 use Rattle.geometry.proofs.SizeLaws.{Unit, quad-unit, row-unit, page-unit, round-same-page}
 use Rattle.map.proofs.WindowLaws.{unit-kept, page-below}
 use Rattle.device.specs.declared.record.Device.{Device}
+use Rattle.device.specs.State.{State, bankOf}
+use Rattle.flash.specs.declared.effect.Effect.{Effect}
 use Rattle.device.specs.Record.{opOf, bfswap, pfswap}
 use Rattle.protection.specs.Protection.{pwpOf, programProtectedOf, pageOffsetOf, bootProtectedOf, protectedOf, anyProtectedOf}
 use Rattle.operation.specs.Operation.{unitOf, targetOf, targetBeginsOf, regionBeginsOf, beginsAtOf, lengthOf}
-use Rattle.flash.specs.Effect.{Runs, stepAtOf, stepLocationOf, blockedOf, oldQuadOf, effect, effectAtOf, effectOf}
+use Rattle.flash.specs.Effect.{Runs, stepAtOf, stepLocationOf, blockedOf, effect, effectAtOf, effectOf}
 use Rattle.flash.proofs.EffectLaws.{begins-inside, none-above, step-room, Room}
 
 module _ (g : Geometry) (ok : InRange g) (pwp : ℕ) where
@@ -92,29 +94,35 @@ module _ (g : Geometry) (ok : InRange g) (pwp : ℕ) where
       true-not-false (sym b ∙ none-above g ok (suc (suc (suc (suc (suc (suc (suc (suc op)))))))) address pwp (omega arith))
 
 -- what writes is not blocked
-not-blocked : (g : Geometry) (d : Device) (one two sram : List ℕ) → effectOf g d one two sram .writes ≡ true → blockedOf g d (stepLocationOf g d) ≡ false
+not-blocked : (g : Geometry) (s : State) (sram : List ℕ) → effectOf g s sram .write .writes ≡ true → blockedOf g (s .device) (stepLocationOf g (s .device))
+    ≡ false
 unfolding effectOf
-not-blocked g d one two sram h = go (blockedOf g d (stepLocationOf g d)) refl h
+not-blocked g s sram h = go (blockedOf g (s .device) l) refl h
   where
     l : Location
-    l = stepLocationOf g d
+    l = stepLocationOf g (s .device)
 
     second : Bool
-    second = inSecondOf l (bfswap d) (pfswap d)
+    second = inSecondOf l (bfswap (s .device)) (pfswap (s .device))
 
-    go : (t : Bool) → blockedOf g d l ≡ t
-        → pick t (effect false false second (quadIndexOf g l) blankQuad) (effectAtOf d sram second (quadIndexOf g l) (oldQuadOf one two second (quadIndexOf g l))) .writes ≡ true
-        → blockedOf g d l ≡ false
+    free : Effect
+    free = effectAtOf (s .device) sram second (quadIndexOf g l) (quadAt (bankOf s second) (quadIndexOf g l))
+
+    go : (t : Bool) → blockedOf g (s .device) l ≡ t → pick t (effect false false second (quadIndexOf g l) blankQuad) free .write .writes ≡ true
+        → blockedOf g (s .device) l ≡ false
     go true e w = true-not-false (sym w)
     go false e w = e
 
-pub unprotected : (g : Geometry) (d : Device) (one two sram : List ℕ) → Runs g d → effectOf g d one two sram .writes ≡ true
-    → let l = stepLocationOf g d in protectedOf g d (l .program) (l .upper) (pageOf g l) ≡ false
+pub unprotected : (g : Geometry) (s : State) (sram : List ℕ) → Runs g (s .device) → effectOf g s sram .write .writes ≡ true
+    → let l = stepLocationOf g (s .device) in protectedOf g (s .device) (l .program) (l .upper) (pageOf g l) ≡ false
 unfolding protectedOf blockedOf Free
-unprotected g d one two sram runs h = go (l .program) refl (not-blocked g d one two sram h)
+unprotected g s sram runs h = go (l .program) refl (not-blocked g s sram h)
   where
+    d : Device
+    d = s .device
+
     l : Location
-    l = stepLocationOf g d
+    l = stepLocationOf g (s .device)
 
     go : (t : Bool) → l .program ≡ t → pick (l .program) false (bootProtectedOf d (l .upper) (pageOf g l)) ≡ false
         → pick (l .program) (programProtectedOf (pwpOf d) (pageOffsetOf g (l .upper) (pageOf g l))) (bootProtectedOf d (l .upper) (pageOf g l)) ≡ false

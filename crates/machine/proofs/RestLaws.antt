@@ -12,13 +12,15 @@ use Rattle.words.proofs.BitLaws.{bit-or, bit-xor, clear-bit, has-bit}
 use Rattle.geometry.specs.declared.banks.Geometry.{Geometry}
 use Rattle.device.specs.declared.record.Device.{Device}
 use Rattle.device.specs.Registers.{WR}
-use Rattle.device.specs.Record.{registerOf, withCon, running}
+use Rattle.device.specs.Builders.{withCon}
+use Rattle.device.specs.Record.{registerOf, running}
 use Rattle.fields.specs.Fields.{wantedOf, conTakesOf}
 use Rattle.access.specs.Store.{hasFormOf, appliedOf, accepted, storeAcceptedOf, storeOf}
 use Rattle.launch.specs.ConStore.{launchesOf, conStoreOf}
 use Rattle.start_up.specs.StartUp.{Access, storesOf}
 use Rattle.access.proofs.AcceptedLaws.{AtRest}
-use Rattle.machine.specs.Machine.{State, state, runOf, AllAccepted, BringWords, storeOperations}
+use Rattle.device.specs.State.{State, state}
+use Rattle.machine.specs.Machine.{runOf, AllAccepted, BringWords, storeOperations}
 use Rattle.machine.proofs.StoreLaws.{taken-idle, store-possible}
 use Rattle.machine.proofs.StoreEquations.{store-accepted, store-runs, wr-off}
 use Rattle.machine.proofs.MachineLaws.{store-answers}
@@ -49,7 +51,8 @@ module _ (g : Geometry) (d : Device) (rest : AtRest g d) where
       con e = rw e
 
       idle : (t : Bool) → eqb r 0 ≡ t → (t && launchesOf d (wantedOf form (d .nvmcon .0) value)) ≡ false
-          → running (pick t (accepted (withCon d (conStoreOf g d w .nvmcon) 0 (d .step)) (conStoreOf g d w .event)) (accepted (appliedOf d r w) false) .device) ≡ false
+          → running (pick t (accepted (withCon d (conStoreOf g d w .nvmcon) 0 (d .step)) (conStoreOf g d w .event))
+          (accepted (appliedOf d r w) false) .device) ≡ false
       idle true e off = con-idle w (ap (λ (x : ℕ). launchesOf d (wantedOf form x value)) (con e) ∙ off)
       idle false e off = rest .idle
 

@@ -17,7 +17,8 @@ use Rattle.access.specs.Store.{hasFormOf, storeDeclineOf, storeOf}
 use Rattle.start_up.specs.StartUp.{Access, access, storesOf, keyStores, startUpStores, startUpDeclineOf, startUpOf}
 use Rattle.access.proofs.AcceptedLaws.{store-at-rest, rest-opens}
 use Rattle.start_up.proofs.StartUpLaws.{start-up-at-rest}
-use Rattle.machine.specs.Machine.{Operation, State, state, runOf, AllAccepted, storeOperations, BringWords, Sound}
+use Rattle.device.specs.State.{State, state}
+use Rattle.machine.specs.Machine.{Operation, runOf, AllAccepted, storeOperations, BringWords, Sound}
 use Rattle.machine.proofs.MachineLaws.{run-sound}
 use Rattle.machine.proofs.RestLaws.{NoLaunch, NoLaunches, stores-accepted, stores-run, stores-bring}
 

@@ -15,9 +15,10 @@ use Rattle.geometry.specs.declared.banks.Geometry.{Geometry}
 use Rattle.words.specs.Decline.{acceptedOf}
 use Rattle.device.specs.declared.record.Device.{Device}
 use Rattle.launch.specs.declared.launch.Launched.{Launched}
-use Rattle.access.specs.declared.store.Stored.{Stored}
+use Rattle.device.specs.declared.answer.Answer.{Answer}
 use Rattle.device.specs.Registers.{WR, WREN, WRERR, LVDERR, NVMOP, LBWPULOCK, UBWPULOCK}
-use Rattle.device.specs.Record.{registerOf, withCon, isOpen, opOf}
+use Rattle.device.specs.Builders.{withCon}
+use Rattle.device.specs.Record.{registerOf, isOpen, opOf}
 use Rattle.operation.specs.Operation.{beginsOf}
 use Rattle.fields.specs.Fields.{wantedOf, keyNextOf, conTakesOf, bwpTakesOf, lowerTakesOf}
 use Rattle.launch.specs.Launch.{launched, launchOf}
@@ -208,9 +209,9 @@ module _ (g : Geometry) (d : Device) (rest : AtRest g d) where
 pub keys-open : (g : Geometry) (d : Device) → AtRest g d → storesOf g d keyStores ≡ withCon d (d .nvmcon .0) 3 (d .step)
 unfolding keyNextOf
 keys-open g d rest =
-    ap (λ (s : Stored). storeOf g (storeOf g (s .device) 1 0 0xAA99_6655 .device) 1 0 0x5566_99AA .device) (key-store g d rest 0)
-    ∙ ap (λ (s : Stored). storeOf g (s .device) 1 0 0x5566_99AA .device) (key-store g (at 1) (key-rest g d rest 1 (omega arith)) 0xAA99_6655)
-    ∙ ap (λ (s : Stored). s .device) (key-store g (at 2) (key-rest g d rest 2 (omega arith)) 0x5566_99AA)
+    ap (λ (s : Answer). storeOf g (storeOf g (s .device) 1 0 0xAA99_6655 .device) 1 0 0x5566_99AA .device) (key-store g d rest 0)
+    ∙ ap (λ (s : Answer). storeOf g (s .device) 1 0 0x5566_99AA .device) (key-store g (at 1) (key-rest g d rest 1 (omega arith)) 0xAA99_6655)
+    ∙ ap (λ (s : Answer). s .device) (key-store g (at 2) (key-rest g d rest 2 (omega arith)) 0x5566_99AA)
   where
     at : ℕ → Device
     at k = withCon d (d .nvmcon .0) k (d .step)

@@ -19,9 +19,10 @@ use Rattle.geometry.specs.declared.banks.Geometry.{Geometry}
 use Rattle.words.specs.Decline.{acceptedOf}
 use Rattle.device.specs.declared.record.Device.{Device}
 use Rattle.launch.specs.declared.launch.Launched.{Launched}
-use Rattle.access.specs.declared.store.Stored.{Stored}
+use Rattle.device.specs.declared.answer.Answer.{Answer}
 use Rattle.device.specs.Registers.{WR, WRERR, LVDERR, ALWAYS}
-use Rattle.device.specs.Record.{registerOf, withCon, running, opOf}
+use Rattle.device.specs.Builders.{withCon}
+use Rattle.device.specs.Record.{registerOf, running, opOf}
 use Rattle.operation.specs.Operation.{beginsOf, lengthOf}
 use Rattle.opening.specs.Possible.{runningOf, possibleOf}
 use Rattle.fields.specs.Fields.{wantedOf, conTakesOf, bwpTakesOf}
@@ -81,7 +82,8 @@ module _ (g : Geometry) (d : Device) (rest : AtRest g d) where
         words = data-words (d .nvmdata) r w (old .words) hw;
         src = pick-both (λ (x : ℕ). x < 2 ^ 32) (eqb r 7) hw (old .src);
         pwp = pick-both (Within 0x80FF_FFFF) (eqb r 8) (merge-within 0x80FF_FFFF _ w _ (pwp-takes-within d) (old .pwp)) (old .pwp);
-        bwp = pick-both (Within 0x9FDF) (eqb r 9) (merge-within 0x9FDF _ w _ (within-trans 0x9FDF 0x9F9F _ (record { inside = refl }) (bwp-takes-within d)) (old .bwp)) (old .bwp);
+        bwp = pick-both (Within 0x9FDF) (eqb r 9) (merge-within 0x9FDF _ w _ (within-trans 0x9FDF 0x9F9F _ (record { inside = refl }) (bwp-takes-within d))
+            (old .bwp)) (old .bwp);
         con2 = pick-both (Within 0xF01F_B3C0) (eqb r 10) (merge-within 0xF01F_B3C0 _ w _ (con2-takes-within d) (old .con2)) (old .con2);
       }
 
@@ -170,7 +172,8 @@ module _ (g : Geometry) (d : Device) (rest : AtRest g d) where
       c = mergeOf (conTakesOf d) w (d .nvmcon .0)
 
       inside : Within 0xF0CF c
-      inside = merge-within 0xF0CF (conTakesOf d) w (d .nvmcon .0) (within-trans 0xF0CF 0x40CF _ (record { inside = refl }) (con-takes-within d)) (was .rows .con)
+      inside = merge-within 0xF0CF (conTakesOf d) w (d .nvmcon .0) (within-trans 0xF0CF 0x40CF _ (record { inside = refl }) (con-takes-within d))
+          (was .rows .con)
 
   pub con-possible : (w : ℕ) → possibleOf g (withCon d (conStoreOf g d w .nvmcon) 0 (d .step)) ≡ true
   unfolding Can
@@ -210,7 +213,7 @@ store-possible g d r form value hv ok =
     let w = wantedOf form (registerOf d r) value in
     let hw = wanted-below form (registerOf d r) value (register-below d r (possible g d (rest .possible) .rows)) hv in
     rw ok
-    (pick-both (λ (s : Stored). possibleOf g (s .device) ≡ true) (eqb r 0) (con-possible g d rest w) (applied-possible g d rest r w hw))
+    (pick-both (λ (s : Answer). possibleOf g (s .device) ≡ true) (eqb r 0) (con-possible g d rest w) (applied-possible g d rest r w hw))
 
 pub read-leaves-possible : (g : Geometry) (d : Device) (r : ℕ) → acceptedOf (readDeclineOf g d r) ≡ true
     → possibleOf g (registerReadOf g d r .device) ≡ true
@@ -219,7 +222,12 @@ read-leaves-possible g d r ok =
     let old = possible g d (read-possible g d r ok .1) in
     rw ok
     (possible-test g (withCon d (d .nvmcon .0) 0 (d .step))
-    (record { rows = same-rows d _ 0 (d .step) (old .rows .con) (old .rows); always = old .always; keys = omega arith; runs = go (running d) refl (old .runs) }))
+    (record {
+      rows = same-rows d _ 0 (d .step) (old .rows .con) (old .rows);
+      always = old .always;
+      keys = omega arith;
+      runs = go (running d) refl (old .runs);
+    }))
   where
     go : (t : Bool) → running d ≡ t → pick (running d) (runningOf g d) (eqb (d .step) 0) ≡ true
         → pick (running d) (runningOf g (withCon d (d .nvmcon .0) 0 (d .step))) (eqb (d .step) 0) ≡ true

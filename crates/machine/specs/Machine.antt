@@ -6,21 +6,21 @@ use mathlib.Core.Bool.{Bool, true, false, not}
 use mathlib.Core.List.{List, [], _∷_}
 use mathlib.Core.Logic.{_⊎_}
 use lib.ListN.{length, take}
-use Rattle.words.specs.Word.{pick}
 use Rattle.words.specs.Quad.{wordAt}
 use Rattle.geometry.specs.declared.banks.Geometry.{Geometry}
 use Rattle.words.specs.declared.decline.Decline.{Decline}
 use Rattle.geometry.specs.Banks.{bankWordsOf, pageAt}
 use Rattle.words.specs.Decline.{acceptedOf}
 use Rattle.map.specs.Windows.{quadIndexOf}
-use Rattle.device.specs.declared.record.Device.{Device}
 use Rattle.device.specs.Registers.{withinOf}
-use Rattle.device.specs.Record.{registerOf, powerOn, bfswap}
+use Rattle.device.specs.Builders.{powerOn}
+use Rattle.device.specs.State.{State, state, bankOf}
+use Rattle.device.specs.Record.{registerOf, bfswap}
 use Rattle.opening.specs.Possible.{possibleOf}
 use Rattle.access.specs.Store.{storeOf, registerReadOf}
 use Rattle.start_up.specs.StartUp.{Access, startUpStores, startUpOf}
 use Rattle.flash.specs.Effect.{stepLocationOf}
-use Rattle.flash.specs.Step.{After, stepOf}
+use Rattle.flash.specs.Step.{stepOf}
 use Rattle.resets.specs.Reset.{comparedOf, resetOf}
 use Rattle.reads.specs.Read.{secondAtOf, flashReadOf}
 use Rattle.machine.specs.Protection.{protectedPageOf}
@@ -34,36 +34,21 @@ pub data Operation : Type 0 where
   step : List ℕ → Operation
   reset : List ℕ → ℕ → List ℕ → Operation
 
-pub record State : Type 0 where
-  pub device : Device
-  pub one : List ℕ
-  pub two : List ℕ
-
-abbrev pub state : Device → List ℕ → List ℕ → State
-state d one two = record { device = d; one = one; two = two }
-
--- bank 1, or bank 2
-abbrev pub bankOf : State → Bool → List ℕ
-bankOf s second = pick second (s .two) (s .one)
-
-abbrev pub left : After → State
-left a = state (a .device) (a .one) (a .two)
-
 -- the answer to an operation
 abbrev pub answerOf : Geometry → State → Operation → Decline
 answerOf g s (store r form value) = storeOf g (s .device) r form value .decline
 answerOf g s (registerRead r) = registerReadOf g (s .device) r .decline
-answerOf g s (flashRead address) = flashReadOf g (s .device) (s .one) (s .two) address .decline
-answerOf g s (step sram) = stepOf g (s .device) (s .one) (s .two) sram .decline
-answerOf g s (reset sram kind mask) = resetOf g (s .device) (s .one) (s .two) sram kind mask .decline
+answerOf g s (flashRead address) = flashReadOf g s address .decline
+answerOf g s (step sram) = stepOf g s sram .decline
+answerOf g s (reset sram kind mask) = resetOf g s sram kind mask .decline
 
 -- the state after it
 abbrev pub transitionOf : Geometry → State → Operation → State
 transitionOf g s (store r form value) = state (storeOf g (s .device) r form value .device) (s .one) (s .two)
 transitionOf g s (registerRead r) = state (registerReadOf g (s .device) r .device) (s .one) (s .two)
 transitionOf g s (flashRead address) = s
-transitionOf g s (step sram) = left (stepOf g (s .device) (s .one) (s .two) sram)
-transitionOf g s (reset sram kind mask) = left (resetOf g (s .device) (s .one) (s .two) sram kind mask)
+transitionOf g s (step sram) = stepOf g s sram .state
+transitionOf g s (reset sram kind mask) = resetOf g s sram kind mask .state
 
 -- the state after a list of operations
 abbrev pub runOf : Geometry → State → List Operation → State

@@ -14,7 +14,8 @@ use Rattle.words.proofs.MaskLaws.{Within, within-test, test-within, below-withi
 use Rattle.geometry.specs.declared.banks.Geometry.{Geometry}
 use Rattle.device.specs.declared.record.Device.{Device}
 use Rattle.device.specs.Registers.{withinOf, ALWAYS}
-use Rattle.device.specs.Record.{registerOf, withCon, running}
+use Rattle.device.specs.Builders.{withCon}
+use Rattle.device.specs.Record.{registerOf, running}
 use Rattle.opening.specs.Possible.{rowsFit, implementedOf, runningOf, possibleOf}
 
 -- each register is within its mask

@@ -14,8 +14,7 @@ use Rattle.map.specs.declared.windows.Location.{Location}
 use Rattle.geometry.specs.Banks.{InRange, roundDownOf}
 use Rattle.map.specs.Windows.{windowBytesOf, pageOf}
 use Rattle.map.proofs.WindowLaws.{stands, page-below}
-use Rattle.device.specs.declared.record.Device.{Device}
-use Rattle.protection.specs.Protection.{pwpOf, programProtectedOf, pageOffsetOf, protectedOf, anyProtectedOf}
+use Rattle.protection.specs.Protection.{programProtectedOf, pageOffsetOf, anyProtectedOf}
 use Rattle.operation.specs.Operation.{unitOf, targetOf, regionBeginsOf, lengthOf}
 
 module _ (g : Geometry) (ok : InRange g) where
@@ -73,8 +72,8 @@ module _ (g : Geometry) (ok : InRange g) where
       absorb false true h = sym (h refl)
       absorb false false h = refl
 
-  pub region-first : (d : Device) (upper : Bool) → regionBeginsOf g (pwpOf d) upper ≡ not (protectedOf g d true upper 0)
-  unfolding regionBeginsOf protectedOf
-  region-first d upper =
+  pub region-first : (pwp : ℕ) (upper : Bool) → regionBeginsOf g pwp upper ≡ not (programProtectedOf pwp (pageOffsetOf g upper 0))
+  unfolding regionBeginsOf
+  region-first pwp upper =
       let e : g .p ≡ suc (g .p - 1) = omega (arith, ok .p-low) in
-      ap (λ (n : ℕ). not (anyProtectedOf g (pwpOf d) upper n)) e ∙ ap not (first-protected (pwpOf d) upper (g .p - 1))
+      ap (λ (n : ℕ). not (anyProtectedOf g pwp upper n)) e ∙ ap not (first-protected pwp upper (g .p - 1))

@@ -3,8 +3,7 @@
 ghost use mathlib.Core.Path.{_≡_};
 ghost use Rattle.geometry.specs.Banks.{InRange};
 ghost use Rattle.device.specs.Record.{opOf};
-ghost use Rattle.protection.specs.Protection.{pwpOf};
-ghost use Rattle.operation.specs.Operation.{unitOf, targetOf, targetBeginsOf, regionBeginsOf, beginsOf, lengthOf};
+ghost use Rattle.operation.specs.Operation.{unitOf, targetOf, targetBeginsOf, regionBeginsOf, beginsAtOf, beginsOf, lengthOf};
 use device::record::Device;
 use geometry::banks::Geometry;
 use geometry::banks::page_bytes;
@@ -13,7 +12,7 @@ use geometry::banks::row_bytes;
 use map::windows::Location;
 use map::windows::locate;
 use map::windows::page;
-use protection::protection::is_protected;
+use protection::protection::is_page_protected;
 use protection::protection::pwp;
 
 // NVMOP.
@@ -38,57 +37,64 @@ pub fn unit(g: Geometry, op: u32) -> u32
 }
 
 // Where NVMOP 2, 3 and 4 begin.
-pub fn target(g: Geometry, d: Device) -> Location
+pub fn target(g: Geometry, op: u32, address: u32) -> Location
     requires { ⌜ InRange g ⌝ }
-    ensures { λ r. ⌜ r ≡ targetOf g (opOf d) (d .nvmaddr) ⌝ }
+    ensures { λ r. ⌜ r ≡ targetOf g op address ⌝ }
 {
-    locate(g, round_down(d.nvmaddr, unit(g, op(d))))
+    locate(g, round_down(address, unit(g, op)))
 }
 
-fn target_begins(g: Geometry, d: Device) -> bool
+fn target_begins(g: Geometry, op: u32, address: u32, last: u32) -> bool
     requires { ⌜ InRange g ⌝ }
-    ensures { λ r. ⌜ r ≡ targetBeginsOf g (pwpOf d) (targetOf g (opOf d) (d .nvmaddr)) ⌝ }
+    ensures { λ r. ⌜ r ≡ targetBeginsOf g last (targetOf g op address) ⌝ }
 {
-    let l = target(g, d);
+    let l = target(g, op, address);
     if !l.inside {
         return false;
     }
     if !l.program {
         return true;
     }
-    !is_protected(g, d, true, l.upper, page(g, l))
+    !is_page_protected(g, last, l.upper, page(g, l))
 }
 
 // A region has a protected page where its first page is protected.
-fn region_begins(g: Geometry, d: Device, upper: bool) -> bool
+fn region_begins(g: Geometry, last: u32, upper: bool) -> bool
     requires { ⌜ InRange g ⌝ }
-    ensures { λ r. ⌜ r ≡ regionBeginsOf g (pwpOf d) upper ⌝ }
+    ensures { λ r. ⌜ r ≡ regionBeginsOf g last upper ⌝ }
 {
-    !is_protected(g, d, true, upper, 0)
+    !is_page_protected(g, last, upper, 0)
 }
 
-// Whether a launch begins steps.
-pub fn begins(g: Geometry, d: Device) -> bool
+// Whether the launch of an NVMOP begins steps, by its address and by PWP.
+fn begins_at(g: Geometry, op: u32, address: u32, last: u32) -> bool
     requires { ⌜ InRange g ⌝ }
-    ensures { λ r. ⌜ r ≡ beginsOf g d ⌝ }
+    ensures { λ r. ⌜ r ≡ beginsAtOf g op address last ⌝ }
 {
-    let op = op(d);
     if op < 2 {
         return false;
     }
     if op < 5 {
-        return target_begins(g, d);
+        return target_begins(g, op, address, last);
     }
     if op == 5 {
-        return region_begins(g, d, false);
+        return region_begins(g, last, false);
     }
     if op == 6 {
-        return region_begins(g, d, true);
+        return region_begins(g, last, true);
     }
     if op == 7 {
-        return pwp(d) == 0;
+        return last == 0;
     }
     false
+}
+
+// Whether a launch of the device begins steps.
+pub fn begins(g: Geometry, d: Device) -> bool
+    requires { ⌜ InRange g ⌝ }
+    ensures { λ r. ⌜ r ≡ beginsOf g d ⌝ }
+{
+    begins_at(g, op(d), d.nvmaddr, pwp(d))
 }
 
 // The number of steps.

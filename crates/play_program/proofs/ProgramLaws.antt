@@ -19,7 +19,7 @@ use Rattle.geometry.specs.Banks.{listedOf, inRangeOf}
 use Rattle.words.specs.Decline.{acceptedOf}
 use Rattle.sequence.specs.Sequence.{complementOf, validOf, bfswapOf}
 use Rattle.device.specs.declared.record.Device.{Device}
-use Rattle.device.specs.Record.{powerOn}
+use Rattle.device.specs.Builders.{powerOn}
 use Rattle.opening.specs.Opening.{openingOf}
 use Rattle.opening.proofs.OpeningLaws.{opens}
 use Rattle.resets.specs.Reset.{comparedOf, resetConOf, resetDeviceOf}
@@ -71,7 +71,8 @@ unfolding printedOf widthOf
 printed-short script = go (decLe (length script) longest)
   where
     go : Dec (length script ≤ longest) → length (printedOf script) ≤ outputRoom
-    go (yes short) = rw (le-ltb longest (length script) short) (pick-both (λ (l : List ℕ). length l ≤ outputRoom) (isScriptOf script) (lines-short script short) (omega arith))
+    go (yes short) = rw (le-ltb longest (length script) short) (pick-both (λ (l : List ℕ). length l ≤ outputRoom) (isScriptOf script)
+        (lines-short script short) (omega arith))
     go (no long) = rw (lt-ltb longest (length script) (omega arith)) (omega arith)
 
 -- ---- what is printed

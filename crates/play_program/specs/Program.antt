@@ -11,8 +11,8 @@ use Rattle.words.specs.declared.decline.Decline.{Decline}
 use Rattle.geometry.specs.Banks.{bankWordsOf}
 use Rattle.words.specs.Decline.{numberOf}
 use Rattle.sequence.specs.Sequence.{sequenceIndexOf}
-use Rattle.device.specs.Record.{powerOn}
-use Rattle.machine.specs.Machine.{State, state}
+use Rattle.device.specs.Builders.{powerOn}
+use Rattle.device.specs.State.{State, state}
 use Rattle.records.specs.Records.{recordsOf, isScriptOf}
 use Rattle.script.specs.Play.{linesOf, Playback}
 

@@ -3,7 +3,7 @@ ghost use mathlib.Core.Path.{_≡_};
 ghost use mathlib.Core.List.{[]};
 ghost use Rattle.script.specs.Play.{playOf};
 ghost use Rattle.play_program.specs.Program.{smallest, startOf, declineLine, printout, takenOf, writtenOf, printOf};
-use device::record::power_on;
+use device::builders::power_on;
 use geometry::banks::Geometry;
 use lines::buffer::put_front;
 use lines::lines::LINE_FEED;

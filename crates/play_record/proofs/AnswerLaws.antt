@@ -22,11 +22,12 @@ use Rattle.device.specs.Record.{running}
 use Rattle.opening.specs.Possible.{possibleOf}
 use Rattle.opening.specs.Opening.{openingOf}
 use Rattle.opening.proofs.OpeningLaws.{opens}
-use Rattle.access.specs.declared.store.Stored.{Stored}
+use Rattle.device.specs.declared.answer.Answer.{Answer}
 use Rattle.access.specs.Store.{hasFormOf, storeDeclineOf, storeAcceptedOf, storeOf}
-use Rattle.flash.specs.Step.{After, stepDeclineOf, stepOf}
+use Rattle.flash.specs.Step.{stepDeclineOf, stepOf}
 use Rattle.resets.specs.Reset.{resetDeclineOf, resetOf}
-use Rattle.machine.specs.Machine.{State, Sound}
+use Rattle.device.specs.State.{State, state, After}
+use Rattle.machine.specs.Machine.{Sound}
 use Rattle.records.specs.declared.records.Record.{Record}
 use Rattle.records.specs.Records.{isResetOf, isRecordOf}
 use Rattle.play_record.specs.Record.{maskZero, recordAfterOf}
@@ -37,20 +38,21 @@ module _ (P : Decline → Type 0) (g : Geometry) (d : Device) (accepted : P Decl
   store-answer : (r form value : ℕ) → P (openingOf g d [] 0) → P Decline.Register → P Decline.Running → P (storeOf g d r form value .decline)
   unfolding storeOf storeAcceptedOf storeDeclineOf
   store-answer r form value opening register run =
-      pick-both (λ (a : Stored). P (a .decline)) (acceptedOf (storeDeclineOf g d r form))
-      (pick-both (λ (a : Stored). P (a .decline)) (eqb r 0) accepted accepted)
+      pick-both (λ (a : Answer). P (a .decline)) (acceptedOf (storeDeclineOf g d r form))
+      (pick-both (λ (a : Answer). P (a .decline)) (eqb r 0) accepted accepted)
       (pick-both P (acceptedOf (openingOf g d [] 0))
       (pick-both P (hasFormOf r form) (pick-both P (running d) run accepted) register)
       opening)
 
-  step-answer : (one two sram : List ℕ) → P (openingOf g d (length one ∷ length two ∷ []) (length sram)) → P Decline.Idle → P (stepOf g d one two sram .decline)
+  step-answer : (one two sram : List ℕ) → P (openingOf g d (length one ∷ length two ∷ []) (length sram)) → P Decline.Idle
+      → P (stepOf g (state d one two) sram .decline)
   unfolding stepOf stepDeclineOf
   step-answer one two sram opening idle =
       pick-both (λ (a : After). P (a .decline)) (acceptedOf (stepDeclineOf g d (length one) (length two) (length sram))) accepted
       (pick-both P (acceptedOf (openingOf g d (length one ∷ length two ∷ []) (length sram))) (pick-both P (running d) accepted idle) opening)
 
   reset-answer : (one two sram : List ℕ) (kind : ℕ) (mask : List ℕ) → P (openingOf g d (length one ∷ length two ∷ []) (length sram))
-      → P (pick (ltb 2 kind) Decline.ResetKind Decline.Accepted) → P (resetOf g d one two sram kind mask .decline)
+      → P (pick (ltb 2 kind) Decline.ResetKind Decline.Accepted) → P (resetOf g (state d one two) sram kind mask .decline)
   unfolding resetOf resetDeclineOf
   reset-answer one two sram kind mask opening known =
       pick-both (λ (a : After). P (a .decline)) (acceptedOf (resetDeclineOf g d (length one) (length two) (length sram) kind)) accepted
@@ -113,7 +115,8 @@ record-answer g sram s r listed room sound = go (eqb (r .kind) 0) refl (eqb (r .
     alone = rw (opens g (s .device) [] 0 listed tt (omega arith) (sound .possible)) none
 
     banks : RecordAnswer (openingOf g (s .device) (length (s .one) ∷ length (s .two) ∷ []) (length sram))
-    banks = rw (opens g (s .device) (length (s .one) ∷ length (s .two) ∷ []) (length sram) listed (sound .first, (sound .other, tt)) room (sound .possible)) none
+    banks = rw (opens g (s .device) (length (s .one) ∷ length (s .two) ∷ []) (length sram) listed (sound .first, (sound .other, tt)) room
+        (sound .possible)) none
 
     go : (a : Bool) → eqb (r .kind) 0 ≡ a → (b : Bool) → eqb (r .kind) 1 ≡ b → isRecordOf r ≡ true → RecordAnswer (recordAfterOf g sram s r .decline)
     go true ea b eb known =

@@ -4,24 +4,19 @@ use mathlib.Core.List.{List, [], _∷_}
 use lib.Dec.{eqb}
 use Rattle.words.specs.Word.{pick}
 use Rattle.geometry.specs.declared.banks.Geometry.{Geometry}
-use Rattle.access.specs.declared.store.Stored.{Stored}
 use Rattle.access.specs.Store.{storeOf}
-use Rattle.flash.specs.Step.{After, after, stepOf}
+use Rattle.flash.specs.Step.{stepOf}
 use Rattle.resets.specs.Reset.{resetOf}
-use Rattle.machine.specs.Machine.{State}
+use Rattle.device.specs.State.{State, After, answeredOf}
 use Rattle.records.specs.declared.records.Record.{Record}
 
 -- "Resets use mask 0."
 abbrev pub maskZero : List ℕ
 maskZero = 0 ∷ 0 ∷ 0 ∷ 0 ∷ []
 
--- everything after a store
-abbrev pub storedOf : State → Stored → After
-storedOf s a = after (a .decline) (a .device) (s .one) (s .two) (a .event)
-
 -- everything after a record: "kind (0 store, 1 step, 2 reset)". A kind above 2 is none of a script's
 unfoldable pub recordAfterOf : Geometry → List ℕ → State → Record → After
 recordAfterOf g sram s r =
-    pick (eqb (r .kind) 0) (storedOf s (storeOf g (s .device) (r .number) (r .form) (r .value)))
-    (pick (eqb (r .kind) 1) (stepOf g (s .device) (s .one) (s .two) sram)
-    (resetOf g (s .device) (s .one) (s .two) sram (r .number) maskZero))
+    pick (eqb (r .kind) 0) (answeredOf s (storeOf g (s .device) (r .number) (r .form) (r .value)))
+    (pick (eqb (r .kind) 1) (stepOf g s sram)
+    (resetOf g s sram (r .number) maskZero))

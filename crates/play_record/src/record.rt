@@ -1,11 +1,10 @@
 // Playing one record on lent banks.
 ghost use mathlib.Core.Path.{_≡_};
-ghost use Rattle.flash.specs.Step.{after};
-ghost use Rattle.machine.specs.Machine.{state};
+ghost use Rattle.device.specs.State.{lent, leaves};
 ghost use Rattle.play_record.specs.Record.{recordAfterOf};
 use access::store::store;
+use device::answer::Answer;
 use device::record::Device;
-use flash::step::Stepped;
 use flash::step::step;
 use geometry::banks::Geometry;
 use records::records::Record;
@@ -19,18 +18,11 @@ pub fn play_record(
     two: &mut [u32],
     sram: &[u32],
     r: Record,
-) -> Stepped
-    ensures { λ a. ⌜ after (a .decline) (a .device) (now (one .exit)) (now (two .exit)) (a .event) ≡ recordAfterOf g (now (sram .entry)) (state d (now (one .entry)) (now (two .entry))) r ⌝ }
+) -> Answer
+    ensures { λ a. ⌜ leaves a (one .exit) (two .exit) ≡ recordAfterOf g (now (sram .entry)) (lent d (one .entry) (two .entry)) r ⌝ }
 {
     if r.kind == 0 {
-        let a = store(g, d, r.number, r.form, r.value);
-        let decline = a.decline;
-        let device = a.device;
-        return Stepped {
-            decline,
-            device,
-            event: a.event,
-        };
+        return store(g, d, r.number, r.form, r.value);
     }
     if r.kind == 1 {
         return step(g, d, one, two, sram);
@@ -38,7 +30,7 @@ pub fn play_record(
     let a = reset(g, d, one, two, sram, r.number, [0; 4]);
     let decline = a.decline;
     let device = a.device;
-    Stepped {
+    Answer {
         decline,
         device,
         event: false,

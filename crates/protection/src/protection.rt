@@ -16,11 +16,10 @@ pub fn pwp(d: Device) -> u32
     d.nvmpwp.0 % 0x100_0000
 }
 
-// Whether the program page that starts at this offset from 0x1D000000 is protected.
-pub fn is_program_protected(d: Device, offset: u32) -> bool
-    ensures { λ r. ⌜ r ≡ programProtectedOf (pwpOf d) offset ⌝ }
+// Whether PWP protects the program page that starts at this offset from 0x1D000000.
+fn is_program_protected(last: u32, offset: u32) -> bool
+    ensures { λ r. ⌜ r ≡ programProtectedOf last offset ⌝ }
 {
-    let last = pwp(d);
     if last == 0 {
         return false;
     }
@@ -50,6 +49,15 @@ fn page_offset(g: Geometry, upper: bool, page: u32) -> u32
     program_bytes(g) + page * page_bytes(g)
 }
 
+// Whether PWP protects a page of a program region. No call of the device: callers show that there is such a page.
+pub fn is_page_protected(g: Geometry, last: u32, upper: bool, page: u32) -> bool
+    requires { ⌜ InRange g ⌝ }
+    requires { ⌜ page < g .p ⌝ }
+    ensures { λ r. ⌜ r ≡ programProtectedOf last (pageOffsetOf g upper page) ⌝ }
+{
+    is_program_protected(last, page_offset(g, upper, page))
+}
+
 // Whether a page of a window is protected. No call of the device: callers show that there is such a page.
 pub fn is_protected(g: Geometry, d: Device, program: bool, upper: bool, page: u32) -> bool
     requires { ⌜ InRange g ⌝ }
@@ -57,7 +65,7 @@ pub fn is_protected(g: Geometry, d: Device, program: bool, upper: bool, page: u3
     ensures { λ r. ⌜ r ≡ protectedOf g d program upper page ⌝ }
 {
     if program {
-        return is_program_protected(d, page_offset(g, upper, page));
+        return is_page_protected(g, pwp(d), upper, page);
     }
     is_boot_protected(d, upper, page)
 }

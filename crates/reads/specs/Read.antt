@@ -1,7 +1,7 @@
 -- "A flash read gives the word at its address there and changes nothing." Assumes nothing.
 use Prim.Native.Nat.{ℕ, _%_}
 use mathlib.Core.Bool.{Bool, true, false, not}
-use mathlib.Core.List.{List, [], _∷_}
+use mathlib.Core.List.{[], _∷_}
 use lib.Dec.{eqb}
 use lib.ListN.{length}
 use Rattle.words.specs.Word.{pick}
@@ -12,6 +12,7 @@ use Rattle.words.specs.declared.decline.Decline.{Decline}
 use Rattle.words.specs.Decline.{acceptedOf, firstOf}
 use Rattle.map.specs.Windows.{locateOf, wordIndexOf, inSecondOf}
 use Rattle.device.specs.declared.record.Device.{Device}
+use Rattle.device.specs.State.{State, bankOf}
 use Rattle.device.specs.Record.{running, bfswap, pfswap, opOf}
 use Rattle.opening.specs.Opening.{openingOf}
 use Rattle.reads.specs.declared.read.FlashRead.{FlashRead}
@@ -42,14 +43,13 @@ flashReadDeclineOf g d one two address =
     Decline.Address)
 
 -- the word at an address of the four windows
-abbrev pub wordReadOf : Geometry → Device → List ℕ → List ℕ → ℕ → ℕ
-wordReadOf g d one two address =
-    let l = locateOf g address in
-    pick (secondAtOf d l) (wordAt two (wordIndexOf g l)) (wordAt one (wordIndexOf g l))
+abbrev pub wordReadOf : Geometry → State → ℕ → ℕ
+wordReadOf g s address = let l = locateOf g address in wordAt (bankOf s (secondAtOf (s .device) l)) (wordIndexOf g l)
 
-unfoldable pub flashReadOf : Geometry → Device → List ℕ → List ℕ → ℕ → FlashRead
-flashReadOf g d one two address =
-    record {
-      decline = flashReadDeclineOf g d (length one) (length two) address;
-      word = pick (acceptedOf (flashReadDeclineOf g d (length one) (length two) address)) (wordReadOf g d one two address) 0;
-    }
+-- the same declines of a read of a state
+abbrev pub readAnswerOf : Geometry → State → ℕ → Decline
+readAnswerOf g s address = flashReadDeclineOf g (s .device) (length (s .one)) (length (s .two)) address
+
+unfoldable pub flashReadOf : Geometry → State → ℕ → FlashRead
+flashReadOf g s address =
+    record { decline = readAnswerOf g s address; word = pick (acceptedOf (readAnswerOf g s address)) (wordReadOf g s address) 0 }

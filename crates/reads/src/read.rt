@@ -4,6 +4,7 @@ ghost use mathlib.Core.Bool.{true};
 ghost use lib.ListN.{length};
 ghost use Rattle.geometry.specs.Banks.{InRange, bankWordsOf};
 ghost use Rattle.map.specs.Windows.{locateOf};
+ghost use Rattle.device.specs.State.{lent};
 ghost use Rattle.opening.specs.Possible.{possibleOf};
 ghost use Rattle.reads.specs.Read.{secondAtOf, freeOf, readableOf, flashReadDeclineOf, wordReadOf, flashReadOf};
 use device::record::Device;
@@ -82,7 +83,7 @@ fn word_read(g: Geometry, d: Device, one: &[u32], two: &[u32], address: u32) -> 
     requires { ⌜ InRange g ⌝ }
     requires { ⌜ (length (now one) ≡ bankWordsOf g) × (length (now two) ≡ bankWordsOf g) ⌝ }
     requires { ⌜ locateOf g address .inside ≡ true ⌝ }
-    ensures { λ r. ⌜ r ≡ wordReadOf g d (now (one .entry)) (now (two .entry)) address ⌝ }
+    ensures { λ r. ⌜ r ≡ wordReadOf g (lent d (one .entry) (two .entry)) address ⌝ }
 {
     let l = locate(g, address);
     let i = word_index(g, l) as usize;
@@ -94,7 +95,7 @@ fn word_read(g: Geometry, d: Device, one: &[u32], two: &[u32], address: u32) -> 
 
 // A flash read: it changes nothing.
 pub fn flash_read(g: Geometry, d: Device, one: &[u32], two: &[u32], address: u32) -> FlashRead
-    ensures { λ r. ⌜ r ≡ flashReadOf g d (now (one .entry)) (now (two .entry)) address ⌝ }
+    ensures { λ r. ⌜ r ≡ flashReadOf g (lent d (one .entry) (two .entry)) address ⌝ }
 {
     let decline = flash_read_decline(g, d, one.len(), two.len(), address);
     if !decline.is_accepted() {

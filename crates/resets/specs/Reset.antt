@@ -6,42 +6,38 @@ use lib.Dec.{eqb, ltb}
 use lib.ListN.{length, getD}
 use lib.Bits.{bitOr}
 use Rattle.words.specs.Word.{pick, mergeOf, clearOf}
-use Rattle.words.specs.Quad.{wordAt, mergeQuadOf}
+use Rattle.words.specs.Quad.{wordAt, quadAt, mergeQuadOf}
 use Rattle.geometry.specs.declared.banks.Geometry.{Geometry}
 use Rattle.words.specs.declared.decline.Decline.{Decline}
 use Rattle.words.specs.Decline.{acceptedOf, firstOf}
 use Rattle.sequence.specs.Sequence.{sequenceIndexOf, bfswapOf}
 use Rattle.device.specs.declared.record.Device.{Device}
 use Rattle.device.specs.Registers.{WR, WREN, LVDERR, PFSWAP, BFSWAP, NVMERS, resets}
-use Rattle.device.specs.Record.{powerOn, withCon, running}
+use Rattle.device.specs.Builders.{powerOn, withCon, withStored}
+use Rattle.device.specs.State.{State, state, bankOf, After, after}
+use Rattle.device.specs.Record.{running}
 use Rattle.opening.specs.Opening.{openingOf}
-use Rattle.flash.specs.declared.effect.Effect.{Effect}
-use Rattle.flash.specs.Effect.{oldQuadOf, effect, effectOf}
-use Rattle.flash.specs.Step.{After, after, oneAfter, twoAfter}
+use Rattle.flash.specs.declared.write.Write.{Write}
+use Rattle.flash.specs.Write.{writtenOf}
+use Rattle.flash.specs.Effect.{effectOf}
 
 -- declines 1, 2, 3 and 7
 unfoldable pub resetDeclineOf : Geometry → Device → ℕ → ℕ → ℕ → ℕ → Decline
 resetDeclineOf g d one two sram kind = firstOf (openingOf g d (one ∷ two ∷ []) sram) (pick (ltb 2 kind) Decline.ResetKind Decline.Accepted)
 
--- "the four words of the torn mask choose, bit by bit, intended (1) or old (0)"
-abbrev pub tornQuadOf : Effect → List ℕ → List ℕ → List ℕ → List ℕ
-tornQuadOf e mask one two = mergeQuadOf mask (e .intended) (oldQuadOf one two (e .second) (e .quad))
+-- "With WR = 1 a reset first tears the quad of the next step: the four words of the torn mask choose, bit by bit, intended (1) or old (0).
+-- A step that would abort or hit a protected page tears nothing."
+abbrev pub tornOf : State → List ℕ → Write → Write
+tornOf s mask w =
+    record {
+      writes = running (s .device) && w .writes;
+      second = w .second;
+      quad = w .quad;
+      words = mergeQuadOf mask (w .words) (quadAt (bankOf s (w .second)) (w .quad));
+    }
 
--- the step as the cut leaves it
-abbrev pub tornEffectOf : Effect → List ℕ → List ℕ → List ℕ → Effect
-tornEffectOf e mask one two = effect (e .aborts) (e .writes) (e .second) (e .quad) (tornQuadOf e mask one two)
-
--- "With WR = 1 a reset first tears the quad of the next step"; "A step that would abort or hit a protected page tears
--- nothing." Bank 1 and bank 2 after it
-abbrev pub oneTornOf : Geometry → Device → List ℕ → List ℕ → List ℕ → List ℕ → List ℕ
-oneTornOf g d one two sram mask =
-    let e = effectOf g d one two sram in
-    pick (running d) (oneAfter one (e .writes) (e .second) (e .quad) (tornQuadOf e mask one two)) one
-
-abbrev pub twoTornOf : Geometry → Device → List ℕ → List ℕ → List ℕ → List ℕ → List ℕ
-twoTornOf g d one two sram mask =
-    let e = effectOf g d one two sram in
-    pick (running d) (twoAfter two (e .writes) (e .second) (e .quad) (tornQuadOf e mask one two)) two
+abbrev pub tearOf : Geometry → State → List ℕ → List ℕ → State
+tearOf g s sram mask = writtenOf s (s .device) (tornOf s mask (effectOf g s sram .write))
 
 -- BFSWAP by the comparison of what two banks hold
 abbrev pub comparedOf : Geometry → List ℕ → List ℕ → Bool
@@ -59,25 +55,17 @@ resetConOf d kind =
 unfoldable pub resetDeviceOf : Device → ℕ → Bool → Device
 resetDeviceOf d kind swap =
     pick (eqb kind 0) (withCon powerOn (bitOr (resetConOf d kind) (pick swap BFSWAP 0)) 0 0)
-    (record {
-      nvmcon = record { 0 = bitOr (resetConOf d kind) (pick swap BFSWAP 0) };
-      nvmkey = d .nvmkey;
-      nvmaddr = d .nvmaddr;
-      nvmdata = d .nvmdata;
-      nvmsrcaddr = d .nvmsrcaddr;
-      nvmpwp = record { 0 = getD resets 8 0 };
-      nvmbwp = record { 0 = getD resets 9 0 };
-      nvmcon2 = record { 0 = mergeOf NVMERS (d .nvmcon2 .0) (getD resets 10 0) };
-      keystep = 0;
-      step = 0;
-    })
+    (withCon (withStored d (d .nvmaddr) (d .nvmdata) (d .nvmsrcaddr) (getD resets 8 0) (getD resets 9 0) (mergeOf NVMERS (d .nvmcon2 .0) (getD resets 10 0)) 0)
+    (bitOr (resetConOf d kind) (pick swap BFSWAP 0)) 0 0)
 
 -- "BFSWAP is compared after the tear. A reset gives no event."
-abbrev pub restartOf : Geometry → Device → ℕ → List ℕ → List ℕ → After
-restartOf g d kind one two = after Decline.Accepted (resetDeviceOf d kind (comparedOf g one two)) one two false
+abbrev pub restartOf : Geometry → State → ℕ → After
+restartOf g s kind = after Decline.Accepted (state (resetDeviceOf (s .device) kind (comparedOf g (s .one) (s .two))) (s .one) (s .two)) false
 
-unfoldable pub resetOf : Geometry → Device → List ℕ → List ℕ → List ℕ → ℕ → List ℕ → After
-resetOf g d one two sram kind mask =
-    pick (acceptedOf (resetDeclineOf g d (length one) (length two) (length sram) kind))
-    (restartOf g d kind (oneTornOf g d one two sram mask) (twoTornOf g d one two sram mask))
-    (after (resetDeclineOf g d (length one) (length two) (length sram) kind) d one two false)
+-- declines 1, 2, 3 and 7 of a reset of a state with a lent SRAM
+abbrev pub resetAnswerOf : Geometry → State → List ℕ → ℕ → Decline
+resetAnswerOf g s sram kind = resetDeclineOf g (s .device) (length (s .one)) (length (s .two)) (length sram) kind
+
+unfoldable pub resetOf : Geometry → State → List ℕ → ℕ → List ℕ → After
+resetOf g s sram kind mask =
+    pick (acceptedOf (resetAnswerOf g s sram kind)) (restartOf g (tearOf g s sram mask) kind) (after (resetAnswerOf g s sram kind) s false)

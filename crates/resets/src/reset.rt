@@ -7,20 +7,22 @@ ghost use Rattle.device.specs.Registers.{BFSWAP};
 ghost use lib.ListN.{length};
 ghost use Rattle.geometry.specs.Banks.{InRange, bankWordsOf};
 ghost use Rattle.opening.specs.Possible.{possibleOf};
+ghost use Rattle.device.specs.Record.{running};
 ghost use Rattle.flash.specs.Effect.{Runs, effectOf};
-ghost use Rattle.flash.specs.Step.{after};
-ghost use Rattle.resets.specs.Reset.{resetDeclineOf, tornEffectOf, oneTornOf, twoTornOf, comparedOf, resetConOf, resetDeviceOf, resetOf};
+ghost use Rattle.device.specs.State.{lent, after};
+ghost use Rattle.resets.specs.Reset.{resetDeclineOf, tornOf, tearOf, comparedOf, resetConOf, resetDeviceOf, resetOf};
+use device::builders::power_on;
+use device::builders::with_con;
 use device::record::Device;
-use device::record::power_on;
 use device::registers::Nvmbwp;
 use device::registers::Nvmcon;
 use device::registers::Nvmcon2;
 use device::registers::Nvmpwp;
 use device::registers::reset_value;
-use flash::effect::Effect;
 use flash::effect::next_effect;
 use flash::effect::old_quad;
-use flash::step::apply;
+use flash::write::Write;
+use flash::write::apply;
 use geometry::banks::Geometry;
 use geometry::lent::Lent;
 use opening::opening::opening;
@@ -51,25 +53,27 @@ fn reset_decline(g: Geometry, d: Device, one: usize, two: usize, sram: usize, ki
     Decline::Accepted
 }
 
-// The next step as a cut tears it: its quad with the words that are left.
-fn torn_effect(
+// The write of the next step as a cut tears it, while an operation runs.
+fn torn_write(
     g: Geometry,
     d: Device,
     one: &[u32],
     two: &[u32],
     sram: &[u32],
     mask: [u32; 4],
-) -> Effect
+) -> Write
     requires { ⌜ Runs g d ⌝ }
+    requires { ⌜ running d ≡ true ⌝ }
     requires { ⌜ (length (now one) ≡ bankWordsOf g) × (length (now two) ≡ bankWordsOf g) ⌝ }
-    ensures { λ r. ⌜ r ≡ tornEffectOf (effectOf g d (now (one .entry)) (now (two .entry)) (now (sram .entry))) mask (now (one .entry)) (now (two .entry)) ⌝ }
+    ensures { λ r. ⌜ r ≡ (let s = lent d (one .entry) (two .entry) in tornOf s mask (effectOf g s (now (sram .entry)) .write)) ⌝ }
 {
-    let mut e = next_effect(g, d, one, two, sram);
-    let intended = e.intended;
-    let old = old_quad(one, two, e.second, e.quad);
-    let torn = merge_quad(mask, intended, old);
-    e.intended = torn;
-    e
+    let e = next_effect(g, d, one, two, sram);
+    let mut w = e.write;
+    let words = w.words;
+    let old = old_quad(one, two, w.second, w.quad);
+    let torn = merge_quad(mask, words, old);
+    w.words = torn;
+    w
 }
 
 // Tears the quad of the next step where an operation runs.
@@ -77,14 +81,13 @@ fn tear(g: Geometry, d: Device, one: &mut [u32], two: &mut [u32], sram: &[u32], 
     requires { ⌜ InRange g ⌝ }
     requires { ⌜ possibleOf g d ≡ true ⌝ }
     requires { ⌜ (length (now one) ≡ bankWordsOf g) × (length (now two) ≡ bankWordsOf g) ⌝ }
-    ensures { λ _. ⌜ (now (one .exit) ≡ oneTornOf g d (now (one .entry)) (now (two .entry)) (now (sram .entry)) mask) × (now (two .exit) ≡ twoTornOf g d (now (one .entry)) (now (two .entry)) (now (sram .entry)) mask) ⌝ }
+    ensures { λ _. ⌜ lent d (one .exit) (two .exit) ≡ tearOf g (lent d (one .entry) (two .entry)) (now (sram .entry)) mask ⌝ }
 {
     if !has(d.nvmcon.0, Nvmcon::WR) {
         return;
     }
-    let e = torn_effect(g, d, one, two, sram, mask);
-    let words = e.intended;
-    apply(one, two, e.writes, e.second, e.quad, words);
+    let w = torn_write(g, d, one, two, sram, mask);
+    apply(one, two, w);
 }
 
 // BFSWAP by the comparison of the two banks. No call of the device: its callers judge the lengths first.
@@ -132,23 +135,16 @@ fn reset_device(d: Device, kind: u32, swap: bool) -> Device
 {
     let con = swapped(reset_con(d, kind), swap);
     if kind == 0 {
-        let mut fresh = power_on();
-        let nvmcon = Nvmcon::new(con);
-        fresh.nvmcon = nvmcon;
-        return fresh;
+        return with_con(power_on(), con, 0, 0);
     }
     let mut e = d;
-    let nvmcon = Nvmcon::new(con);
     let nvmpwp = Nvmpwp::new(reset_value(8));
     let nvmbwp = Nvmbwp::new(reset_value(9));
     let nvmcon2 = Nvmcon2::new(merge(Nvmcon2::NVMERS, d.nvmcon2.0, reset_value(10)));
-    e.nvmcon = nvmcon;
     e.nvmpwp = nvmpwp;
     e.nvmbwp = nvmbwp;
     e.nvmcon2 = nvmcon2;
-    e.keystep = 0;
-    e.step = 0;
-    e
+    with_con(e, con, 0, 0)
 }
 
 // A reset: kind 0 power-on, 1 brown-out, 2 other.
@@ -161,7 +157,8 @@ pub fn reset(
     kind: u32,
     mask: [u32; 4],
 ) -> Restarted
-    ensures { λ r. ⌜ after (r .decline) (r .device) (now (one .exit)) (now (two .exit)) false ≡ resetOf g d (now (one .entry)) (now (two .entry)) (now (sram .entry)) kind mask ⌝ }
+    ensures { λ r. ⌜ after (r .decline) (lent (r .device) (one .exit) (two .exit)) false
+        ≡ resetOf g (lent d (one .entry) (two .entry)) (now (sram .entry)) kind mask ⌝ }
 {
     let decline = reset_decline(g, d, one.len(), two.len(), sram.len(), kind);
     if !decline.is_accepted() {

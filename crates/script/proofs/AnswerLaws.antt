@@ -15,7 +15,8 @@ use Rattle.geometry.specs.Banks.{inRangeOf}
 use Rattle.words.specs.Decline.{acceptedOf}
 use Rattle.opening.specs.Opening.{openingOf}
 use Rattle.opening.proofs.OpeningLaws.{ready}
-use Rattle.machine.specs.Machine.{State, Sound}
+use Rattle.device.specs.State.{State}
+use Rattle.machine.specs.Machine.{Sound}
 use Rattle.records.specs.Records.{recordOf, isRecordOf, recordsOf, isScriptOf}
 use Rattle.play_record.specs.Record.{recordAfterOf}
 use Rattle.play_record.proofs.AnswerLaws.{RecordAnswer, record-answer}

@@ -9,7 +9,8 @@ use lib.Dec.{eqb}
 use lib.ListN.{getD}
 use Rattle.words.proofs.PickLaws.{pick-both}
 use Rattle.geometry.specs.declared.banks.Geometry.{Geometry}
-use Rattle.machine.specs.Machine.{State, left, Operation, transitionOf, runOf, BringsWord, BringWords, Sound}
+use Rattle.device.specs.State.{State}
+use Rattle.machine.specs.Machine.{Operation, transitionOf, runOf, BringsWord, BringWords, Sound}
 use Rattle.machine.proofs.MachineLaws.{run-append}
 use Rattle.machine.proofs.Machine.{controller}
 use Rattle.records.specs.declared.records.Record.{Record}
@@ -17,12 +18,12 @@ use Rattle.records.specs.Records.{valueOf, recordOf}
 use Rattle.play_record.specs.Record.{recordAfterOf}
 use Rattle.script.specs.Play.{stateOf, operationOf, operationsOf}
 
-record-runs : (g : Geometry) (sram : List ℕ) (s : State) (r : Record) → left (recordAfterOf g sram s r) ≡ transitionOf g s (operationOf sram r)
+record-runs : (g : Geometry) (sram : List ℕ) (s : State) (r : Record) → recordAfterOf g sram s r .state ≡ transitionOf g s (operationOf sram r)
 unfolding recordAfterOf
 record-runs g sram s r = go (eqb (r .kind) 0) refl (eqb (r .kind) 1) refl
   where
     go : (a : Bool) → eqb (r .kind) 0 ≡ a → (b : Bool) → eqb (r .kind) 1 ≡ b
-        → left (recordAfterOf g sram s r) ≡ transitionOf g s (operationOf sram r)
+        → recordAfterOf g sram s r .state ≡ transitionOf g s (operationOf sram r)
     go true ea b eb = rw ea
     go false ea true eb = rw (ea, eb)
     go false ea false eb = rw (ea, eb)

@@ -12,8 +12,7 @@ use Rattle.words.proofs.BitLaws.{true-not-false}
 use Rattle.geometry.specs.declared.banks.Geometry.{Geometry}
 use Rattle.words.specs.declared.decline.Decline.{Decline}
 use Rattle.words.specs.Decline.{numberOf, acceptedOf}
-use Rattle.flash.specs.Step.{After}
-use Rattle.machine.specs.Machine.{State, left}
+use Rattle.device.specs.State.{State, After}
 use Rattle.lines.specs.Buffer.{saturatedOf}
 use Rattle.lines.specs.Digits.{widthOf}
 use Rattle.lines.specs.Lines.{linesLengthOf}
@@ -33,7 +32,7 @@ lines-length g sram s script (suc n) =
     rw (
       length-append (linesOf g sram s script n) (recordLineOf n a),
       lines-length g sram s script n,
-      line-length n (numberOf (a .decline)) (a .device .nvmcon .0) (a .event) (record-digit g sram (stateOf g sram s script n) (recordOf script n)),
+      line-length n (numberOf (a .decline)) (a .state .device .nvmcon .0) (a .event) (record-digit g sram (stateOf g sram s script n) (recordOf script n)),
     )
 
 -- the answer 0 always means that the script was played
@@ -94,7 +93,7 @@ pub playing-next : (g : Geometry) (sram : List ℕ) (start : State) (script befo
     → Playing g sram start script before s out bytes i → length out < 2 ^ 64
     → (r : Record) → r ≡ recordOf script i → (a : After) → a ≡ recordAfterOf g sram s r
     → (out′ : List ℕ) → out′ ≡ sets out bytes (recordLineOf i a) → (bytes′ : ℕ) → bytes′ ≡ saturatedOf (bytes + (widthOf i + 14))
-    → Playing g sram start script before (left a) out′ bytes′ (suc i)
+    → Playing g sram start script before (a .state) out′ bytes′ (suc i)
 playing-next g sram start script before s out bytes i p small r er a ea out′ eo bytes′ eb =
     let e : a ≡ recordAfterOf g sram (stateOf g sram start script i) (recordOf script i) = rw (p .reached, er) at ea in
     let lines = linesOf g sram start script i in
@@ -102,7 +101,7 @@ playing-next g sram start script before s out bytes i p small r er a ea out′ e
     let n : 0 + length lines ≡ linesLengthOf i = omega (arith, lines-length g sram start script i) in
     let joined : sets out (linesLengthOf i) line ≡ sets before 0 (lines ++ line) = rw (p .written) (sym (sets-after before 0 (linesLengthOf i) lines line n)) in
     record {
-      reached = ap left e;
+      reached = ap (λ (b : After). b .state) e;
       written =
           eo ∙ rw (p .counted) (sets-saturated out (linesLengthOf i) line small) ∙ joined
           ∙ ap (λ (b : After). sets before 0 (lines ++ recordLineOf i b)) e;
@@ -113,4 +112,11 @@ playing-next g sram start script before s out bytes i p small r er a ea out′ e
 pub playing-ends : (g : Geometry) (sram : List ℕ) (start : State) (script before : List ℕ) (s : State) (out : List ℕ) (bytes : ℕ)
     → Playing g sram start script before s out bytes (recordsOf script) → playback Decline.Accepted bytes s out ≡ playedOf g sram start script before
 playing-ends g sram start script before s out bytes p =
-    rw (p .reached, p .written, p .counted, sets-front before (linesOf g sram start script (recordsOf script)), lines-length g sram start script (recordsOf script))
+    rw (
+      p .reached,
+      p .written,
+      p .counted,
+      sets-front before (linesOf g sram start script (recordsOf script)),
+      lines-length g sram start script
+          (recordsOf script),
+    )

@@ -11,8 +11,8 @@ use Rattle.words.specs.declared.decline.Decline.{Decline}
 use Rattle.words.specs.Decline.{numberOf, acceptedOf, firstOf}
 use Rattle.device.specs.declared.record.Device.{Device}
 use Rattle.opening.specs.Opening.{openingOf}
-use Rattle.flash.specs.Step.{After}
-use Rattle.machine.specs.Machine.{State, left, Operation}
+use Rattle.device.specs.State.{State, After}
+use Rattle.machine.specs.Machine.{Operation}
 use Rattle.play_record.specs.Record.{maskZero, recordAfterOf}
 use Rattle.script.specs.declared.play.PlayLength.{PlayLength}
 use Rattle.records.specs.declared.records.Record.{Record}
@@ -21,11 +21,11 @@ use Rattle.records.specs.Records.{recordOf, recordsOf, isScriptOf}
 -- the state after the first i records: "A refused record is printed and play goes on."
 abbrev pub stateOf : Geometry → List ℕ → State → List ℕ → ℕ → State
 stateOf g sram s script zero = s
-stateOf g sram s script (suc i) = left (recordAfterOf g sram (stateOf g sram s script i) (recordOf script i))
+stateOf g sram s script (suc i) = recordAfterOf g sram (stateOf g sram s script i) (recordOf script i) .state
 
 -- the line of a record with what stands after it
 abbrev pub recordLineOf : ℕ → After → List ℕ
-recordLineOf i a = lineOf i (numberOf (a .decline)) (a .device .nvmcon .0) (a .event)
+recordLineOf i a = lineOf i (numberOf (a .decline)) (a .state .device .nvmcon .0) (a .event)
 
 -- what is printed for the first i records
 abbrev pub linesOf : Geometry → List ℕ → State → List ℕ → ℕ → List ℕ

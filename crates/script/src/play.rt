@@ -1,6 +1,6 @@
 // Playing a script on lent banks.
 ghost use mathlib.Core.Path.{_≡_};
-ghost use Rattle.machine.specs.Machine.{state};
+ghost use Rattle.device.specs.State.{lent};
 ghost use Rattle.script.specs.Play.{playDeclineOf, playback, playedOf, playOf, playLengthOf};
 use device::record::Device;
 use geometry::banks::Geometry;
@@ -57,7 +57,8 @@ fn play_accepted(
     script: &[u8],
     out: &mut [u8],
 ) -> Played
-    ensures { λ r. ⌜ playback (r .decline) (r .bytes) (state (r .device) (now (one .exit)) (now (two .exit))) (now (out .exit)) ≡ playedOf g (now (sram .entry)) (state d (now (one .entry)) (now (two .entry))) (now (script .entry)) (now (out .entry)) ⌝ }
+    ensures { λ r. ⌜ playback (r .decline) (r .bytes) (lent (r .device) (one .exit) (two .exit)) (now (out .exit))
+        ≡ playedOf g (now (sram .entry)) (lent d (one .entry) (two .entry)) (now (script .entry)) (now (out .entry)) ⌝ }
 {
     let mut device = d;
     let mut bytes = 0;
@@ -86,7 +87,8 @@ pub fn play(
     script: &[u8],
     out: &mut [u8],
 ) -> Played
-    ensures { λ r. ⌜ playback (r .decline) (r .bytes) (state (r .device) (now (one .exit)) (now (two .exit))) (now (out .exit)) ≡ playOf g (now (sram .entry)) (state d (now (one .entry)) (now (two .entry))) (now (script .entry)) (now (out .entry)) ⌝ }
+    ensures { λ r. ⌜ playback (r .decline) (r .bytes) (lent (r .device) (one .exit) (two .exit)) (now (out .exit))
+        ≡ playOf g (now (sram .entry)) (lent d (one .entry) (two .entry)) (now (script .entry)) (now (out .entry)) ⌝ }
 {
     let decline = play_decline(g, d, one.len(), two.len(), sram.len(), script);
     if !decline.is_accepted() {
@@ -108,7 +110,7 @@ pub fn play_length(
     sram: &[u32],
     script: &[u8],
 ) -> PlayLength
-    ensures { λ r. ⌜ r ≡ playLengthOf g (now (sram .entry)) (state d (now (one .entry)) (now (two .entry))) (now (script .entry)) ⌝ }
+    ensures { λ r. ⌜ r ≡ playLengthOf g (now (sram .entry)) (lent d (one .entry) (two .entry)) (now (script .entry)) ⌝ }
 {
     let decline = play_decline(g, d, one.len(), two.len(), sram.len(), script);
     if !decline.is_accepted() {

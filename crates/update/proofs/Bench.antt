@@ -6,7 +6,8 @@ use Rattle.geometry.specs.Banks.{listedOf, inRangeOf}
 use Rattle.geometry.specs.Lent.{lengthsFitOf, lentDeclineOf}
 use Rattle.sequence.specs.Sequence.{complementOf, validOf, bfswapOf}
 use Rattle.device.specs.declared.record.Device.{Device}
-use Rattle.device.specs.Record.{registerOf, powerOn}
+use Rattle.device.specs.Builders.{powerOn}
+use Rattle.device.specs.Record.{registerOf}
 use Rattle.opening.specs.Possible.{implementedOf, possibleOf}
 use Rattle.opening.specs.Opening.{openingOf}
 use Rattle.operation.proofs.Bench as operation-bench

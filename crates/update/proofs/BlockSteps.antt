@@ -16,10 +16,10 @@ use Rattle.geometry.specs.Banks.{InRange, pageQuadsOf, programBytesOf, bankWord
 use Rattle.geometry.proofs.SizeLaws.{in-range}
 use Rattle.sequence.specs.Sequence.{sequenceQuadOf, sequenceIndexOf}
 use Rattle.device.specs.declared.record.Device.{Device}
-use Rattle.device.specs.Record.{withCon}
+use Rattle.device.specs.Builders.{withCon}
 use Rattle.protection.specs.Protection.{pwpOf}
 use Rattle.operation.specs.Operation.{lengthOf}
-use Rattle.access.specs.declared.store.Stored.{Stored}
+use Rattle.device.specs.declared.answer.Answer.{Answer}
 use Rattle.access.specs.Store.{storeOf}
 use Rattle.access.proofs.AcceptedLaws.{AtRest}
 use Rattle.start_up.specs.StartUp.{access}
@@ -32,6 +32,7 @@ use Rattle.update.proofs.WordLaws.{Loses, erased-clash, clash-loses}
 use Rattle.update.proofs.TargetLaws.{UpperFree, erase-effect, program-effect}
 use Rattle.update.proofs.HeadLaws.{Between, restCon, Codes, none-codes, page-codes, quad-codes, ended-between, quiet-clear}
 use Rattle.update.proofs.BankLaws.{page-below, quad-below, page-quad, erased-next, programmed-next, words-put, other-word, same-word}
+use Rattle.update.proofs.PlacedLaws.{placed}
 use Rattle.update.proofs.Blocks.{Fixed, Block, Has, stepsIn, opIn, loadedIn, quadIn, wordsIn, runIn, doneIn, DeviceIn, Losing, BankIn, Within, oldWord, newWords}
 use Rattle.update.proofs.Blocks.Block.{prologue, page, quad}
 use Rattle.update.proofs.BlockStores.{new-small, new-four, blank-small}
@@ -49,7 +50,7 @@ module _ (u : Fixed) where
 
   -- ---- what a step writes
   pub block-writes : (k : Block) (d : Device) (n : ℕ) (new : List ℕ) → Within u k d n new → n < stepsIn u k → (sram : List ℕ)
-      → effectOf g (runIn u k d n) (pick b new old) (pick b old new) sram ≡ effect false true (not b) (quadIn u k n) (wordsIn u k)
+      → effectOf g (placed b (runIn u k d n) old new) sram ≡ effect false true (not b) (quadIn u k n) (wordsIn u k)
   block-writes prologue d n new c l sram = absurd (omega arith)
   block-writes (page i) d n new c l sram =
       erase-effect g ok (runIn u (page i) d n) (c .begins .free) (page-codes b .program ∙ sym (page-codes b .boot)) (pick b new old) (pick b old new) sram
@@ -127,6 +128,6 @@ module _ (u : Fixed) where
       let (free, reach, four) = loaded-free k d at l in
       let codes = block-codes k in
       let ended : storeOf g e 0 1 0x4000 .device ≡ withCon (loadedIn u k d) (restCon b (opIn u k)) 0 0 =
-      ap (λ (s : Stored). s .device) (clear-wren g e rest) ∙ rw (same, codes .rests) in
+      ap (λ (s : Answer). s .device) (clear-wren g e rest) ∙ rw (same, codes .rests) in
       ended-between g b (opIn u k) codes (storeOf g e 0 1 0x4000 .device) (loadedIn u k d) (no-launch-rests g e rest (access 0 1 0x4000) quiet-clear) ended
       free reach four

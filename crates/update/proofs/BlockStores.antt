@@ -18,13 +18,13 @@ use Rattle.geometry.specs.Banks.{InRange, pagesOf, pageQuadsOf}
 use Rattle.geometry.proofs.SizeLaws.{in-range}
 use Rattle.sequence.specs.Sequence.{sequenceQuadOf, nextSequenceOf}
 use Rattle.device.specs.declared.record.Device.{Device}
-use Rattle.device.specs.Record.{withCon, bfswap}
+use Rattle.device.specs.Builders.{withCon, withAddress, withData}
+use Rattle.device.specs.Record.{bfswap}
 use Rattle.opening.proofs.PossibleLaws.{idle-step}
 use Rattle.access.specs.Store.{hasFormOf}
 use Rattle.access.proofs.AcceptedLaws.{AtRest}
 use Rattle.start_up.specs.StartUp.{storesOf}
 use Rattle.start_up.proofs.StartUpLaws.{stores-append}
-use Rattle.machine.proofs.StoreEquations.{withAddress, withData}
 use Rattle.machine.proofs.RestLaws.{NoLaunches}
 use Rattle.update.specs.Actions.{clearingStores, unprotectingStores, pageStores, quadStores, upperAddressOf, erasedPageOf, programmedQuadOf, newQuadOf, bankQuadsOf}
 use Rattle.update.specs.PowerFail.{Words}

@@ -14,12 +14,12 @@ use Rattle.geometry.specs.Banks.{inRangeOf, pagesOf, pageQuadsOf, programBytesO
 use Rattle.sequence.specs.Sequence.{sequenceQuadOf, sequenceIndexOf, tseqOf, validOf, nextSequenceOf}
 use Rattle.device.specs.declared.record.Device.{Device}
 use Rattle.device.specs.Registers.{UBWPULOCK}
-use Rattle.device.specs.Record.{withCon, bfswap, pfswap}
+use Rattle.device.specs.Builders.{withCon, withAddress, withData}
+use Rattle.device.specs.Record.{bfswap, pfswap}
 use Rattle.protection.specs.Protection.{pwpOf}
 use Rattle.start_up.specs.StartUp.{Access, storesOf}
 use Rattle.access.proofs.AcceptedLaws.{AtRest}
 use Rattle.machine.specs.Machine.{Sound}
-use Rattle.machine.proofs.StoreEquations.{withAddress, withData}
 use Rattle.update.specs.declared.actions.Action.{Action}
 use Rattle.update.specs.declared.actions.Action.the-variants.{Step}
 use Rattle.update.specs.Actions.{stored, clearingStores, unprotectingStores, endStores, pageStores, quadStores, upperAddressOf}

@@ -11,7 +11,7 @@ use native.Mathlib.Decide.{ℕ-discrete}
 use native.Mathlib.Omega.{arith}
 use lib.Dec.{lit<}
 use lib.ListN.{length}
-use Rattle.words.specs.Word.{pick, allOnes, mergeOf}
+use Rattle.words.specs.Word.{allOnes, mergeOf}
 use Rattle.words.specs.Quad.{wordAt, quadAt, putQuad, blankQuad, mergeQuadOf}
 use Rattle.words.specs.Decline.{acceptedOf}
 use Rattle.words.proofs.BitLaws.{true-not-false}
@@ -21,17 +21,19 @@ use Rattle.geometry.proofs.SizeLaws.{in-range}
 use Rattle.sequence.specs.Sequence.{sequenceQuadOf, sequenceIndexOf, nextSequenceOf}
 use Rattle.device.specs.declared.record.Device.{Device}
 use Rattle.device.specs.Record.{running}
+use Rattle.flash.specs.declared.effect.Effect.{Effect}
+use Rattle.flash.specs.Write.{writtenOf}
 use Rattle.flash.specs.Effect.{effect, effectOf}
-use Rattle.flash.specs.Step.{After}
-use Rattle.resets.specs.Reset.{resetDeviceOf, oneTornOf, twoTornOf, restartOf}
-use Rattle.machine.specs.Machine.{State, left, Sound}
+use Rattle.resets.specs.Reset.{tornOf, resetDeviceOf, tearOf, restartOf}
+use Rattle.device.specs.State.{State, After}
+use Rattle.machine.specs.Machine.{Sound}
 use Rattle.machine.proofs.WriteLaws.{by-reset}
 use Rattle.update.specs.Actions.{programmedQuadOf, bankQuadsOf}
 use Rattle.update.specs.Start.{clashOf}
 use Rattle.update.specs.PowerFail.{Words, Cut, resetBy}
 use Rattle.update.proofs.WordLaws.{Loses, chosenOf, erased-clash, clash-loses, rises-loses, erase-rises, merge-word, torn-sequence}
 use Rattle.update.proofs.BankLaws.{Programmed, new-sequence, quad-once, sequence-last, sequence-blank, programmed-all, programmed-last, other-word, same-word, words-put}
-use Rattle.update.proofs.PlacedLaws.{placed, new-long, compared-placed, torn-placed}
+use Rattle.update.proofs.PlacedLaws.{placed, bank-new, new-long, compared-placed, put-placed}
 use Rattle.update.proofs.Blocks.{Fixed, Block, Has, stepsIn, quadIn, wordsIn, BankIn, Losing, Phase, oldWord, newWords, newBank}
 use Rattle.update.proofs.Blocks.Block.{prologue, page, quad}
 use Rattle.update.proofs.Blocks.Phase.{storing, stepping, ending, finished}
@@ -160,47 +162,44 @@ module _ (u : Fixed) where
     pub state : r ≡ placed b (resetDeviceOf d kind (chosenOf b (oldWord u) (wordAt new (sequenceIndexOf g)))) old new
 
   -- it was carried out
-  tornBy : State → Cut → After
-  tornBy s c =
-      let one = oneTornOf g (s .device) (s .one) (s .two) (c .sram) (c .mask) in
-      let two = twoTornOf g (s .device) (s .one) (s .two) (c .sram) (c .mask) in
-      restartOf g (s .device) (c .kind) one two
-
-  carried : (s : State) (c : Cut) → acceptedOf (resetBy g s c .decline) ≡ true → resetBy g s c ≡ tornBy s c
-  unfolding tornBy
+  carried : (s : State) (c : Cut) → acceptedOf (resetBy g s c .decline) ≡ true → resetBy g s c ≡ restartOf g (tearOf g s (c .sram) (c .mask)) (c .kind)
   carried s c h =
       by-reset g s (c .sram) (c .kind) (c .mask)
-      (λ (a : After). acceptedOf (a .decline) ≡ true → a ≡ tornBy s c)
+      (λ (a : After). acceptedOf (a .decline) ≡ true → a ≡ restartOf g (tearOf g s (c .sram) (c .mask)) (c .kind))
       (λ on k. refl)
       (λ off k. true-not-false (sym k ∙ off))
       h
 
-  module _ (d : Device) (new : List ℕ) (c : Cut) (accepted : acceptedOf (resetBy g (placed b d old new) c .decline) ≡ true) where
-    idle-left : running d ≡ false
-        → left (resetBy g (placed b d old new) c) ≡ placed b (resetDeviceOf d (c .kind) (chosenOf b (oldWord u) (wordAt new (sequenceIndexOf g)))) old new
-    unfolding tornBy
-    idle-left off =
-        ap left (carried (placed b d old new) c accepted)
-        ∙ rw off (ap (λ (t : Bool). placed b (resetDeviceOf d (c .kind) t) old new) (compared-placed b d old new g))
+  -- the state that it leaves, by what it tore
+  left-as : (d : Device) (new after : List ℕ) (c : Cut) → acceptedOf (resetBy g (placed b d old new) c .decline) ≡ true
+      → tearOf g (placed b d old new) (c .sram) (c .mask) ≡ placed b d old after
+      → resetBy g (placed b d old new) c .state ≡ placed b (resetDeviceOf d (c .kind) (chosenOf b (oldWord u) (wordAt after (sequenceIndexOf g)))) old after
+  left-as d new after c accepted torn =
+      ap (λ (a : After). a .state) (carried (placed b d old new) c accepted)
+      ∙ ap (λ (s : State). restartOf g s (c .kind) .state) torn
+      ∙ ap (λ (t : Bool). placed b (resetDeviceOf d (c .kind) t) old after) (compared-placed b d old after g)
 
-    torn-left : running d ≡ true → (j : ℕ) (words : List ℕ)
-        → effectOf g d (pick b new old) (pick b old new) (c .sram) ≡ effect false true (not b) j words
-        → let torn = putQuad new j (mergeQuadOf (c .mask) words (quadAt new j)) in
-        left (resetBy g (placed b d old new) c) ≡ placed b (resetDeviceOf d (c .kind) (chosenOf b (oldWord u) (wordAt torn (sequenceIndexOf g)))) old torn
-    unfolding tornBy
-    torn-left on j words writes = ap left (carried (placed b d old new) c accepted) ∙ rw (on, writes) (torn-placed b d old new g (c .kind) (c .mask) j words)
+  module _ (d : Device) (new : List ℕ) (c : Cut) where
+    idle-tear : running d ≡ false → tearOf g (placed b d old new) (c .sram) (c .mask) ≡ placed b d old new
+    idle-tear off = rw off
+
+    running-tear : running d ≡ true → (j : ℕ) (words : List ℕ) → effectOf g (placed b d old new) (c .sram) ≡ effect false true (not b) j words
+        → tearOf g (placed b d old new) (c .sram) (c .mask) ≡ placed b d old (putQuad new j (mergeQuadOf (c .mask) words (quadAt new j)))
+    running-tear on j words writes =
+        ap (λ (e : Effect). writtenOf (placed b d old new) d (tornOf (placed b d old new) (c .mask) (e .write))) writes
+        ∙ rw (on, bank-new b d old new) (put-placed b d old new d j (mergeQuadOf (c .mask) words (quadAt new j)))
 
   pub cut-leaves : (d : Device) (new : List ℕ) (place : ℕ) → Sound g (placed b d old new) → Phase u d new place → (c : Cut)
-      → acceptedOf (resetBy g (placed b d old new) c .decline) ≡ true → AfterCut d (c .kind) (left (resetBy g (placed b d old new) c))
+      → acceptedOf (resetBy g (placed b d old new) c .decline) ≡ true → AfterCut d (c .kind) (resetBy g (placed b d old new) c .state)
   cut-leaves d new place sound phase c accepted = go phase
     where
       long : length new ≡ bankWordsOf g
       long = new-long b d old new g sound
 
-      idle : running d ≡ false → Outcome new → AfterCut d (c .kind) (left (resetBy g (placed b d old new) c))
-      idle off outcome = record { new = new; long = long; outcome = outcome; state = idle-left d new c accepted off }
+      idle : running d ≡ false → Outcome new → AfterCut d (c .kind) (resetBy g (placed b d old new) c .state)
+      idle off outcome = record { new = new; long = long; outcome = outcome; state = left-as d new new c accepted (idle-tear d new c off) }
 
-      go : Phase u d new place → AfterCut d (c .kind) (left (resetBy g (placed b d old new) c))
+      go : Phase u d new place → AfterCut d (c .kind) (resetBy g (placed b d old new) c .state)
       go (storing p) =
           idle (ap running (p .device) ∙ block-rests u (p .block) (p .within .has) (p .first) (p .within .begins) (p .count) (p .few) .idle)
           (whole-or-losing (p .block) (p .within .has) 0 new long (omega arith) (p .within .bank))
@@ -212,9 +211,10 @@ module _ (u : Fixed) where
             long = put-length new j (mergeQuadOf (c .mask) words (quadAt new j)) ∙ long;
             outcome = torn-outcome (p .block) (p .within .has) (p .count) new long (p .few) (p .within .bank) (c .mask);
             state =
-                torn-left d new c accepted (ap running (p .device) ∙ block-codes u (p .block) .on) j words
-                (ap (λ (e : Device). effectOf g e (pick b new old) (pick b old new) (c .sram)) (p .device)
-                ∙ block-writes u (p .block) (p .first) (p .count) new (p .within) (p .few) (c .sram));
+                left-as d new (putQuad new j (mergeQuadOf (c .mask) words (quadAt new j))) c accepted
+                (running-tear d new c (ap running (p .device) ∙ block-codes u (p .block) .on) j words
+                (ap (λ (e : Device). effectOf g (placed b e old new) (c .sram)) (p .device)
+                ∙ block-writes u (p .block) (p .first) (p .count) new (p .within) (p .few) (c .sram)));
           }
       go (ending p) =
           idle (ap running (p .device) ∙ block-codes u (p .block) .end-idle)

@@ -10,14 +10,13 @@ use lib.Dec.{ltb}
 use lib.ListN.{length, getD}
 use Rattle.words.proofs.PickLaws.{pick-both}
 use Rattle.geometry.specs.declared.banks.Geometry.{Geometry}
-use Rattle.geometry.specs.Banks.{inRangeOf, InRange, pageQuadsOf, bankWordsOf}
-use Rattle.device.specs.declared.record.Device.{Device}
+use Rattle.geometry.specs.Banks.{inRangeOf, InRange, pageQuadsOf}
 use Rattle.device.specs.Record.{running}
-use Rattle.opening.specs.Possible.{possibleOf}
 use Rattle.opening.proofs.OpeningLaws.{opens}
 use Rattle.access.specs.Store.{hasFormOf}
-use Rattle.flash.specs.Effect.{effectOf}
-use Rattle.flash.specs.Step.{stepDeclineOf, stepAcceptedOf, stepOf}
+use Rattle.device.specs.State.{State}
+use Rattle.machine.specs.Machine.{Sound}
+use Rattle.flash.specs.Step.{stepDeclineOf, stepEffectOf, steppedOf, stepOf}
 use Rattle.update.specs.declared.actions.Action.{Action}
 use Rattle.update.specs.declared.actions.Action.the-variants.{Step}
 use Rattle.update.specs.Actions.{stored, prologue, pageStores, quadBlock, pageActionOf, quadActionOf, erasedPageOf, programmedQuadOf, newQuadOf, pageActions, programmingFrom, actionAtOf, totalOf}
@@ -59,9 +58,8 @@ pub total-high : (g : Geometry) → InRange g → totalOf g < 1000000
 unfolding totalOf
 total-high g ok = omega (arith, ok .boot-high, ok .program-high, ok .b-high, ok .p-high)
 
-pub step-carried : (g : Geometry) (d : Device) (one two sram : List ℕ) → inRangeOf g ≡ true → possibleOf g d ≡ true
-    → (length one ≡ bankWordsOf g) × (length two ≡ bankWordsOf g) → length sram ≤ 16384 → running d ≡ true
-    → stepOf g d one two sram ≡ stepAcceptedOf g d one two (effectOf g d one two sram)
+pub step-carried : (g : Geometry) (s : State) (sram : List ℕ) → inRangeOf g ≡ true → Sound g s → length sram ≤ 16384 → running (s .device) ≡ true
+    → stepOf g s sram ≡ steppedOf s (stepEffectOf g s sram)
 unfolding stepOf stepDeclineOf
-step-carried g d one two sram listed can (first, other) short on =
-    rw (opens g d (length one ∷ length two ∷ []) (length sram) listed (first, (other, tt)) short can, on)
+step-carried g s sram listed sound short on =
+    rw (opens g (s .device) (length (s .one) ∷ length (s .two) ∷ []) (length sram) listed (sound .first, (sound .other, tt)) short (sound .possible), on)

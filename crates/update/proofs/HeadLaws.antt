@@ -19,14 +19,15 @@ use Rattle.geometry.specs.declared.banks.Geometry.{Geometry}
 use Rattle.geometry.specs.Banks.{pagesOf, pageQuadsOf, programBytesOf}
 use Rattle.device.specs.declared.record.Device.{Device}
 use Rattle.device.specs.Registers.{WR, WREN, WRERR, LVDERR, PFSWAP, BFSWAP, NVMOP, UBWPULOCK}
-use Rattle.device.specs.Record.{withCon, bfswap, pfswap, isOpen}
+use Rattle.device.specs.Builders.{withCon, withAddress, withBwp, withData}
+use Rattle.device.specs.Record.{bfswap, pfswap, isOpen}
 use Rattle.protection.specs.Protection.{pwpOf}
 use Rattle.operation.specs.Operation.{beginsAtOf}
 use Rattle.opening.proofs.PossibleLaws.{possible}
 use Rattle.access.specs.Store.{hasFormOf, accepted, storeOf}
 use Rattle.start_up.specs.StartUp.{access, storesOf, keyStores}
 use Rattle.access.proofs.AcceptedLaws.{AtRest}
-use Rattle.machine.proofs.StoreEquations.{withAddress, withData, withBwp, launch-clears, launch-begins, address-store, data-store, clear-wren, set-wren, plain-op, launch-store, upper-store, keys-open, store-accepted}
+use Rattle.machine.proofs.StoreEquations.{launch-clears, launch-begins, address-store, data-store, clear-wren, set-wren, plain-op, launch-store, upper-store, keys-open, store-accepted}
 use Rattle.machine.proofs.StoreLaws.{store-possible}
 use Rattle.machine.proofs.RestLaws.{NoLaunch, NoLaunches, no-launch-rests, stores-rest}
 use Rattle.update.specs.Actions.{launchStores, clearingStores, unprotectingStores, pageStores, quadStores, upperAddressOf, bankQuadsOf}

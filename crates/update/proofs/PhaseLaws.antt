@@ -28,7 +28,7 @@ use Rattle.access.proofs.AcceptedLaws.{AtRest}
 use Rattle.start_up.specs.StartUp.{Access, access, storesOf}
 use Rattle.flash.specs.Effect.{effect, effectOf}
 use Rattle.flash.specs.Step.{stepDeclineOf, advanceOf, stepOf}
-use Rattle.machine.specs.Machine.{Operation, left, Sound}
+use Rattle.machine.specs.Machine.{Operation, Sound}
 use Rattle.machine.proofs.StoreEquations.{store-accepted}
 use Rattle.machine.proofs.StoreLaws.{store-possible}
 use Rattle.machine.proofs.MachineLaws.{run-sound}
@@ -139,7 +139,7 @@ module _ (u : Fixed) where
     pub allowed : acceptedOf (actionDeclineOf d (actionAt place)) ≡ true
     pub device : Device
     pub bank : List ℕ
-    pub leaves : left (performOf g (placed b d old new) sram (actionAt place)) ≡ placed b device old bank
+    pub leaves : performOf g (placed b d old new) sram (actionAt place) .state ≡ placed b device old bank
     pub sound : Sound g (placed b device old bank)
     pub four : length (d .nvmdata) ≡ 4 → length (device .nvmdata) ≡ 4
     pub phase : Phase u device bank (suc place)
@@ -167,7 +167,7 @@ module _ (u : Fixed) where
         }
 
     goes-step : length sram ≤ 16384 → running d ≡ true → actionAt place ≡ Step → (j : ℕ) (words : List ℕ)
-        → effectOf g d (pick b new old) (pick b old new) sram ≡ effect false true (not b) j words
+        → effectOf g (placed b d old new) sram ≡ effect false true (not b) j words
         → Phase u (advanceOf g d false .device) (putQuad new j words) (suc place) → Goes d new place sram
     unfolding stepOf stepDeclineOf
     goes-step short on action j words writes phase =
@@ -184,7 +184,7 @@ module _ (u : Fixed) where
         opened : openingOf g d (length (pick b new old) ∷ length (pick b old new) ∷ []) (length sram) ≡ Decline.Accepted
         opened = opens g d _ (length sram) listed (sound .first, (sound .other, tt)) short (sound .possible)
 
-        leaves : left (stepOf g d (pick b new old) (pick b old new) sram) ≡ placed b (advanceOf g d false .device) old (putQuad new j words)
+        leaves : stepOf g (placed b d old new) sram .state ≡ placed b (advanceOf g d false .device) old (putQuad new j words)
         leaves = rw (opened, on, writes) (put-placed b d old new (advanceOf g d false .device) j words)
 
     storing-goes : Storing u d new place → Goes d new place sram
@@ -226,7 +226,7 @@ module _ (u : Fixed) where
         goes-step short (ap running (c .device) ∙ block-codes u (c .block) .on)
         (ap actionAt (c .here) ∙ step-action u (c .block) (c .within .has) (c .count) (c .few))
         (quadIn u (c .block) (c .count)) (wordsIn u (c .block))
-        (ap (λ (e : Device). effectOf g e (pick b new old) (pick b old new) sram) (c .device)
+        (ap (λ (e : Device). effectOf g (placed b e old new) sram) (c .device)
         ∙ block-writes u (c .block) (c .first) (c .count) new (c .within) (c .few) sram)
         (go (ℕ-discrete (c .count + 1) (stepsIn u (c .block))))
       where

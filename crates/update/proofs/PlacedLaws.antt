@@ -6,7 +6,7 @@ use mathlib.Core.List.{List}
 use Prim.Native.Nat.{ℕ}
 use lib.ListN.{length}
 use Rattle.words.specs.Word.{pick}
-use Rattle.words.specs.Quad.{wordAt, quadAt, putQuad, mergeQuadOf}
+use Rattle.words.specs.Quad.{wordAt, putQuad}
 use Rattle.words.proofs.BitLaws.{true-not-false}
 use Rattle.geometry.specs.declared.banks.Geometry.{Geometry}
 use Rattle.geometry.specs.Banks.{bankWordsOf}
@@ -14,9 +14,10 @@ use Rattle.sequence.specs.Sequence.{sequenceIndexOf}
 use Rattle.device.specs.declared.record.Device.{Device}
 use Rattle.device.specs.Record.{bfswap}
 use Rattle.flash.specs.Effect.{effect}
-use Rattle.flash.specs.Step.{oneAfter, twoAfter}
-use Rattle.resets.specs.Reset.{comparedOf, tornQuadOf, resetDeviceOf}
-use Rattle.machine.specs.Machine.{State, state, bankOf, Sound}
+use Rattle.flash.specs.Write.{writtenOf}
+use Rattle.resets.specs.Reset.{comparedOf}
+use Rattle.device.specs.State.{State, bankOf, state}
+use Rattle.machine.specs.Machine.{Sound}
 use Rattle.update.specs.Start.{lowerWordOf, otherWordOf}
 use Rattle.update.specs.PowerFail.{SameBanks}
 use Rattle.update.proofs.WordLaws.{chosenOf}
@@ -24,10 +25,6 @@ use Rattle.update.proofs.WordLaws.{chosenOf}
 -- the state with the old bank and the new
 abbrev pub placed : Bool → Device → List ℕ → List ℕ → State
 placed b d old new = state d (pick b new old) (pick b old new)
-
--- the state after a reset of kind `kind` that left these banks
-abbrev pub resetLeft : Geometry → Device → ℕ → List ℕ → List ℕ → State
-resetLeft g d kind one two = state (resetDeviceOf d kind (comparedOf g one two)) one two
 
 -- every state is one
 pub replaced : (b : Bool) (s : State) → s ≡ placed b (s .device) (bankOf s b) (bankOf s (not b))
@@ -91,29 +88,11 @@ module _ (b : Bool) (d : Device) (old new : List ℕ) where
           go true = refl
           go false = refl
 
-  -- a write of a quad of the new bank, and a torn one
+  -- a write of a quad of the new bank
   pub put-placed : (e : Device) (j : ℕ) (words : List ℕ)
-      → state e (oneAfter (pick b new old) true (not b) j words) (twoAfter (pick b old new) true (not b) j words) ≡ placed b e old (putQuad new j words)
+      → writtenOf (placed b d old new) e (effect false true (not b) j words .write) ≡ placed b e old (putQuad new j words)
   put-placed e j words = go b
     where
-      go : (t : Bool) → state e (oneAfter (pick t new old) true (not t) j words) (twoAfter (pick t old new) true (not t) j words)
-          ≡ placed t e old (putQuad new j words)
-      go true = refl
-      go false = refl
-
-  pub torn-placed : (g : Geometry) (kind : ℕ) (mask : List ℕ) (j : ℕ) (words : List ℕ)
-      → let torn = tornQuadOf (effect false true (not b) j words) mask (pick b new old) (pick b old new) in
-      let left = putQuad new j (mergeQuadOf mask words (quadAt new j)) in
-      let chosen = chosenOf b (wordAt old (sequenceIndexOf g)) (wordAt left (sequenceIndexOf g)) in
-      resetLeft g d kind (oneAfter (pick b new old) true (not b) j torn) (twoAfter (pick b old new) true (not b) j torn)
-      ≡ placed b (resetDeviceOf d kind chosen) old left
-  torn-placed g kind mask j words = go b
-    where
-      go : (t : Bool)
-          → let torn = tornQuadOf (effect false true (not t) j words) mask (pick t new old) (pick t old new) in
-          let left = putQuad new j (mergeQuadOf mask words (quadAt new j)) in
-          let chosen = chosenOf t (wordAt old (sequenceIndexOf g)) (wordAt left (sequenceIndexOf g)) in
-          resetLeft g d kind (oneAfter (pick t new old) true (not t) j torn) (twoAfter (pick t old new) true (not t) j torn)
-          ≡ placed t (resetDeviceOf d kind chosen) old left
+      go : (t : Bool) → writtenOf (placed t d old new) e (effect false true (not t) j words .write) ≡ placed t e old (putQuad new j words)
       go true = refl
       go false = refl

@@ -20,9 +20,9 @@ use Rattle.device.specs.Record.{running, bfswap, pfswap}
 use Rattle.opening.specs.Possible.{possibleOf}
 use Rattle.opening.proofs.OpeningLaws.{opens}
 use Rattle.start_up.specs.StartUp.{startUpOf}
-use Rattle.flash.specs.Step.{After}
 use Rattle.resets.specs.Reset.{resetDeclineOf, resetDeviceOf, resetOf}
-use Rattle.machine.specs.Machine.{Operation, State, left, bankOf, Sound}
+use Rattle.device.specs.State.{State, bankOf, After}
+use Rattle.machine.specs.Machine.{Operation, Sound}
 use Rattle.machine.proofs.Machine.{controller}
 use Rattle.machine.proofs.WriteLaws.{by-reset}
 use Rattle.update.specs.Actions.{totalOf}
@@ -51,9 +51,9 @@ reset-answers g s c listed sound short kind =
     )
 
 -- while no operation runs it changes no bank
-reset-idle : (g : Geometry) (s : State) (c : Cut) → running (s .device) ≡ false → SameBanks s (left (resetBy g s c))
+reset-idle : (g : Geometry) (s : State) (c : Cut) → running (s .device) ≡ false → SameBanks s (resetBy g s c .state)
 reset-idle g s c off =
-    by-reset g s (c .sram) (c .kind) (c .mask) (λ (a : After). SameBanks s (left a)) (λ on. (rw off, rw off)) (λ declined. (refl, refl))
+    by-reset g s (c .sram) (c .kind) (c .mask) (λ (a : After). SameBanks s (a .state)) (λ on. (rw off, rw off)) (λ declined. (refl, refl))
 
 start-up-declined : (g : Geometry) (s : State) → acceptedOf (startUpOf g (s .device) .decline) ≡ false → startedUp g s ≡ s
 unfolding startUpOf
@@ -151,23 +151,23 @@ module _ (u : Fixed) where
       done-idle = ap (λ (s : State). running (s .device)) (stands .state) ∙ done .rest .idle
 
     module _ (c : Cut) where
-      leaves : acceptedOf (resetBy g (p .state) c .decline) ≡ true → AfterCut u (stands .device) (c .kind) (left (resetBy g (p .state) c))
+      leaves : acceptedOf (resetBy g (p .state) c .decline) ≡ true → AfterCut u (stands .device) (c .kind) (resetBy g (p .state) c .state)
       leaves = go (p .state) (stands .state) (stands .sound)
         where
           go : (s : State) → s ≡ placed b (stands .device) old (stands .new) → Sound g s → acceptedOf (resetBy g s c .decline) ≡ true
-              → AfterCut u (stands .device) (c .kind) (left (resetBy g s c))
+              → AfterCut u (stands .device) (c .kind) (resetBy g s c .state)
           go s e sound = rw e (cut-leaves u (stands .device) (stands .new) (p .place) (rw e at sound) (stands .phase) c)
 
       restarts : length (c .sram) ≤ 16384 → c .kind ≤ 2 → Restarts g (p .state) c
       restarts short kind =
           let accepted = reset-answers g (p .state) c listed (stands .sound) short kind in
-          record { reset = accepted; start-up = starts-up (stands .device) can (c .kind) (left (resetBy g (p .state) c)) (leaves accepted) }
+          record { reset = accepted; start-up = starts-up (stands .device) can (c .kind) (resetBy g (p .state) c .state) (leaves accepted) }
 
-      kept-reset : bankOf (left (resetBy g (p .state) c)) b ≡ old
+      kept-reset : bankOf (resetBy g (p .state) c .state) b ≡ old
       kept-reset = go (acceptedOf (resetBy g (p .state) c .decline)) refl
         where
-          go : (t : Bool) → acceptedOf (resetBy g (p .state) c .decline) ≡ t → bankOf (left (resetBy g (p .state) c)) b ≡ old
-          go true h = old-bank (stands .device) can (c .kind) (left (resetBy g (p .state) c)) (leaves h)
+          go : (t : Bool) → acceptedOf (resetBy g (p .state) c .decline) ≡ t → bankOf (resetBy g (p .state) c .state) b ≡ old
+          go true h = old-bank (stands .device) can (c .kind) (resetBy g (p .state) c .state) (leaves h)
           go false h =
               ap (λ (s : State). bankOf s b) (controller .declined-same g (p .state) (Operation.reset (c .sram) (c .kind) (c .mask)) h) ∙ kept
 
@@ -192,21 +192,21 @@ module _ (g : Geometry) (s : State) (image : List ℕ) (update : Update g s imag
     kept-a : OldKept s a
     kept-a = kept u (turnsOf g image (at s 0) A) (stands A)
 
-    stays : (c : Cut) → SameBanks a (left (resetBy g a c))
+    stays : (c : Cut) → SameBanks a (resetBy g a c .state)
     stays c = reset-idle g a c (done-idle u (turnsOf g image (at s 0) A) (stands A) reached)
 
     module _ (c : Cut) (restart : Restarts g a c) where
-      after-a : AfterCut u (stands A .device) (c .kind) (left (resetBy g a c))
+      after-a : AfterCut u (stands A .device) (c .kind) (resetBy g a c .state)
       after-a = leaves u (turnsOf g image (at s 0) A) (stands A) c (restart .reset)
 
       new-runs : Runs (restarted g a c) (not (old s)) (newBankOf g s image)
       new-runs =
           let can-a = can u (turnsOf g image (at s 0) A) (stands A) in
           let same = either (old s) (stays c) in
-          whole-runs u (stands A .device) can-a (c .kind) (left (resetBy g a c)) after-a
-          (sym (new-bank u (stands A .device) can-a (c .kind) (left (resetBy g a c)) after-a) ∙ same ∙ new-left)
+          whole-runs u (stands A .device) can-a (c .kind) (resetBy g a c .state) after-a
+          (sym (new-bank u (stands A .device) can-a (c .kind) (resetBy g a c .state) after-a) ∙ same ∙ new-left)
         where
-          either : (t : Bool) → SameBanks a (left (resetBy g a c)) → bankOf (left (resetBy g a c)) (not t) ≡ bankOf a (not t)
+          either : (t : Bool) → SameBanks a (resetBy g a c .state) → bankOf (resetBy g a c .state) (not t) ≡ bankOf a (not t)
           either true (one, two) = one
           either false (one, two) = two
 
@@ -214,15 +214,15 @@ module _ (g : Geometry) (s : State) (image : List ℕ) (update : Update g s imag
       can-b : possibleOf g (stands B .device) ≡ true
       can-b = can u (turnsOf g image (at s 0) B) (stands B)
 
-      after-b : AfterCut u (stands B .device) (c .kind) (left (resetBy g b c))
+      after-b : AfterCut u (stands B .device) (c .kind) (resetBy g b c .state)
       after-b = leaves u (turnsOf g image (at s 0) B) (stands B) c (restart .reset)
 
       old-or-new : Runs (restarted g b c) (old s) (bankOf s (old s)) ⊎ Runs (restarted g b c) (not (old s)) (bankOf a (not (old s)))
-      old-or-new = rw new-left (one-runs u (stands B .device) can-b (c .kind) (left (resetBy g b c)) after-b)
+      old-or-new = rw new-left (one-runs u (stands B .device) can-b (c .kind) (resetBy g b c .state) after-b)
 
       module _ (runs : Lower (restarted g b c) (old s)) where
         again : Update g (restarted g b c) image
-        again = update-again u (stands B .device) can-b (c .kind) (left (resetBy g b c)) after-b (stands B .quad) runs
+        again = update-again u (stands B .device) can-b (c .kind) (resetBy g b c .state) after-b (stands B .quad) runs
 
         -- it ends as A did: its old bank is A's, and so is the new sequence number
         same-end : (C : List (List ℕ)) → placeAfter g (restarted g b c) image C ≡ totalOf g → SameBanks a (afterTurns g (restarted g b c) image C)
@@ -230,7 +230,7 @@ module _ (g : Geometry) (s : State) (image : List ℕ) (update : Update g s imag
             let v = startFixed g (restarted g b c) image again (old s) (runs .0) in
             let there = stands-turns v (at (restarted g b c) 0) (start-stands g (restarted g b c) image again (old s) (runs .0)) C in
             let q = turnsOf g image (at (restarted g b c) 0) C in
-            let same-old : bankOf (restarted g b c) (old s) ≡ bankOf s (old s) = old-bank u (stands B .device) can-b (c .kind) (left (resetBy g b c)) after-b in
+            let same-old : bankOf (restarted g b c) (old s) ≡ bankOf s (old s) = old-bank u (stands B .device) can-b (c .kind) (resetBy g b c .state) after-b in
             same-placed (old s) a (afterTurns g (restarted g b c) image C) (kept v q there ∙ same-old ∙ sym kept-a)
             (rw same-old at (done-bank v q there end) ∙ sym new-left)
 

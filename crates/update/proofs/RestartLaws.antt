@@ -20,18 +20,18 @@ use Rattle.words.specs.Decline.{acceptedOf}
 use Rattle.geometry.proofs.SizeLaws.{in-range}
 use Rattle.device.specs.declared.record.Device.{Device}
 use Rattle.device.specs.Registers.{WR, WREN, LVDERR, PFSWAP, BFSWAP, NVMOP, UBWPULOCK, NVMERS, SWAPLOCK}
-use Rattle.device.specs.Record.{registerOf, withCon, running, bfswap, pfswap, opOf, isOpen}
+use Rattle.device.specs.Builders.{withCon}
+use Rattle.device.specs.Record.{registerOf, running, bfswap, pfswap, opOf, isOpen}
 use Rattle.operation.specs.Operation.{lengthOf}
 use Rattle.protection.specs.Protection.{pwpOf}
 use Rattle.opening.specs.Possible.{possibleOf}
-use Rattle.access.specs.declared.store.Stored.{Stored}
+use Rattle.device.specs.declared.answer.Answer.{Answer}
 use Rattle.fields.specs.Fields.{conTakesOf}
 use Rattle.access.specs.Store.{hasFormOf, storeDeclineOf, appliedOf, accepted, storeAcceptedOf, storeOf}
 use Rattle.launch.specs.ConStore.{launchesOf, conStoreOf}
 use Rattle.start_up.specs.StartUp.{Access, access, storesOf, keyStores, startUpStores, startUpDeclineOf, startUpOf}
 use Rattle.access.proofs.AcceptedLaws.{AtRest, rest-opens}
 use Rattle.start_up.proofs.StartUpLaws.{stores-append}
-use Rattle.flash.specs.declared.step.Advanced.{Advanced}
 use Rattle.flash.specs.Step.{advanceOf}
 use Rattle.resets.specs.Reset.{resetConOf, resetDeviceOf}
 use Rattle.machine.proofs.DeviceLaws.{reset-swap, reset-possible}
@@ -132,7 +132,7 @@ store-quad g d r form value =
     (pick-both Q (eqb r 6) (length-set (d .nvmdata) 3 _) refl)))))
     refl
   where
-    P : Stored → Type 0
+    P : Answer → Type 0
     P s = length (s .device .nvmdata) ≡ length (d .nvmdata)
 
     Q : List ℕ → Type 0
@@ -148,7 +148,7 @@ pub step-quad : (g : Geometry) (d : Device) (aborts : Bool) → length (advanceO
 unfolding advanceOf
 step-quad g d aborts = pick-both P aborts refl (pick-both P (eqb (d .step + 1) (lengthOf g (opOf d))) refl refl)
   where
-    P : Advanced → Type 0
+    P : Answer → Type 0
     P a = length (a .device .nvmdata) ≡ length (d .nvmdata)
 
 -- ---- a start-up
@@ -221,7 +221,7 @@ module _ (g : Geometry) (swap : Bool) (e : Device) (fresh : Fresh g swap e) wher
   swap-runs =
       stores-append g e keyStores (access 0 2 0x80 ∷ [])
       ∙ ap (λ (d : Device). storesOf g d (access 0 2 0x80 ∷ [])) (keys-open g e (fresh .rest))
-      ∙ ap (λ (s : Stored). s .device) set-opened
+      ∙ ap (λ (s : Answer). s .device) set-opened
 
   swapped-rest : AtRest g swapped
   unfolding hasFormOf

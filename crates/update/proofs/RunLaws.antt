@@ -9,16 +9,16 @@ use native.Mathlib.Numerals.{add-one}
 use native.Mathlib.Omega.{arith}
 use lib.ListN.{length, getD, take}
 use lib.Seq.{take-suc}
-use Rattle.words.specs.Word.{pick}
-use Rattle.words.specs.declared.decline.Decline.{Decline}
 use Rattle.geometry.specs.declared.banks.Geometry.{Geometry}
 use Rattle.device.specs.declared.record.Device.{Device}
-use Rattle.opening.specs.Opening.{openingOf}
-use Rattle.opening.proofs.OpeningLaws.{opens}
 use Rattle.start_up.specs.StartUp.{Access, access}
+use Rattle.flash.specs.declared.effect.Effect.{Effect}
+use Rattle.flash.specs.Write.{writtenOf}
 use Rattle.flash.specs.Effect.{effect, effectOf}
-use Rattle.flash.specs.Step.{stepDeclineOf, stepOf}
-use Rattle.machine.specs.Machine.{State, left, transitionOf, runOf, Sound}
+use Rattle.flash.specs.Step.{advanceOf, stepEffectOf, steppedOf, stepOf}
+use Rattle.device.specs.State.{State, After}
+use Rattle.device.specs.Record.{running}
+use Rattle.machine.specs.Machine.{transitionOf, runOf, Sound}
 use Rattle.update.specs.declared.actions.Action.{Action}
 use Rattle.update.specs.declared.actions.Action.the-variants.{Step}
 use Rattle.update.specs.Actions.{actionsOf, actionAtOf, totalOf}
@@ -28,12 +28,13 @@ use Rattle.update.specs.PowerFail.{Position, at, turnedOf, turnsOf, afte
 use Rattle.update.specs.Run.{operationOf, operationsOf}
 use Rattle.update.proofs.StoringLaws.{none}
 use Rattle.update.proofs.PlaceLaws.{storeOfAccess}
+use Rattle.update.proofs.FormLaws.{step-carried}
 use Rattle.update.proofs.TurnLaws.{turn-done, turn-cases}
 use Rattle.update.proofs.PlacedLaws.{placed}
 use Rattle.update.proofs.Blocks.{Fixed, Finished, Stepping, Phase, Stands, storesIn, quadIn, wordsIn, oldWord}
 use Rattle.update.proofs.Blocks.Phase.{storing, stepping, ending, finished}
 use Rattle.update.proofs.BlockActions.{store-action, step-action, end-action}
-use Rattle.update.proofs.BlockSteps.{block-writes}
+use Rattle.update.proofs.BlockSteps.{block-codes, block-writes}
 use Rattle.update.proofs.PhaseLaws.{actionAt, phase-place}
 use Rattle.update.proofs.StandsLaws.{stands-action, stands-turn}
 use Rattle.update.proofs.StartLaws.{startFixed, start-stands}
@@ -45,23 +46,28 @@ module _ (u : Fixed) (d : Device) (new : List ℕ) (place : ℕ) (sram : List �
 
   -- what a place's action leaves is what the operation leaves
   abbrev Same : Type 0
-  Same = left (performOf g (placed b d old new) sram (actionAt u place)) ≡ transitionOf g (placed b d old new) (operationOf (actionAt u place))
+  Same = performOf g (placed b d old new) sram (actionAt u place) .state ≡ transitionOf g (placed b d old new) (operationOf (actionAt u place))
 
   store-same : (a : Access) → actionAt u place ≡ storeOfAccess a → Same
   store-same a action = rw action
 
   -- a step whose effect is the same with no SRAM
   step-same : length sram ≤ 16384 → actionAt u place ≡ Step → Stepping u d new place → Same
-  unfolding stepOf stepDeclineOf
-  step-same short action c = rw (action, opened (length sram) short, opened 0 (omega arith), writes sram ∙ sym (writes []))
+  step-same short action c =
+      rw action
+      (carried sram short
+      ∙ ap (λ (e : Effect). writtenOf (placed b d old new) (advanceOf g d (e .aborts) .device) (e .write)) (writes sram ∙ sym (writes []))
+      ∙ sym (carried [] (omega arith)))
     where
-      opened : (n : ℕ) → n ≤ 16384 → openingOf g d (length (pick b new old) ∷ length (pick b old new) ∷ []) n ≡ Decline.Accepted
-      opened n h = opens g d (length (pick b new old) ∷ length (pick b old new) ∷ []) n listed (sound .first, (sound .other, tt)) h (sound .possible)
+      carried : (l : List ℕ) → length l ≤ 16384
+          → stepOf g (placed b d old new) l .state ≡ steppedOf (placed b d old new) (stepEffectOf g (placed b d old new) l) .state
+      carried l room =
+          ap (λ (a : After). a .state) (step-carried g (placed b d old new) l listed sound room (ap running (c .device) ∙ block-codes u (c .block) .on))
 
       writes : (l : List ℕ)
-          → effectOf g d (pick b new old) (pick b old new) l ≡ effect false true (not b) (quadIn u (c .block) (c .count)) (wordsIn u (c .block))
+          → effectOf g (placed b d old new) l ≡ effect false true (not b) (quadIn u (c .block) (c .count)) (wordsIn u (c .block))
       writes l =
-          ap (λ (e : Device). effectOf g e (pick b new old) (pick b old new) l) (c .device)
+          ap (λ (e : Device). effectOf g (placed b e old new) l) (c .device)
           ∙ block-writes u (c .block) (c .first) (c .count) new (c .within) (c .few) l
 
   phase-same : length sram ≤ 16384 → place < totalOf g → Phase u d new place → Same
@@ -102,15 +108,15 @@ module _ (u : Fixed) (s : State) where
 
   module _ (p : Position) (stands : Stands u p) (sram : List ℕ) (follows : Follows p) where
     performs : length sram ≤ 16384 → p .place < totalOf g
-        → Follows (at (left (performOf g (p .state) sram (nextActionOf g (p .state) image (p .place)))) (p .place + 1))
+        → Follows (at (performOf g (p .state) sram (nextActionOf g (p .state) image (p .place)) .state) (p .place + 1))
     performs short l =
-        ap (λ (a : Action). left (performOf g (p .state) sram a)) (stands-action u p stands l)
+        ap (λ (a : Action). performOf g (p .state) sram a .state) (stands-action u p stands l)
         ∙ same (p .state) (stands .state) (stands .sound)
         ∙ ap (λ (t : State). transitionOf g t (operationOf (actionAt u (p .place)))) follows
         ∙ first-next g image (oldWord u) s (p .place) l
       where
         same : (t : State) → t ≡ placed (u .b) (stands .device) (u .old) (stands .new) → Sound g t
-            → left (performOf g t sram (actionAt u (p .place))) ≡ transitionOf g t (operationOf (actionAt u (p .place)))
+            → performOf g t sram (actionAt u (p .place)) .state ≡ transitionOf g t (operationOf (actionAt u (p .place)))
         same t e sound = rw e (phase-same u (stands .device) (stands .new) (p .place) sram (rw e at sound) short l (stands .phase))
 
     turn-follows : Follows (turnedOf g image p sram)
@@ -120,7 +126,7 @@ module _ (u : Fixed) (s : State) where
         before (inl l) = turn (turn-cases g (p .state) image sram (p .place) l)
           where
             next : Position
-            next = at (left (performOf g (p .state) sram (nextActionOf g (p .state) image (p .place)))) (p .place + 1)
+            next = at (performOf g (p .state) sram (nextActionOf g (p .state) image (p .place)) .state) (p .place + 1)
 
             turn : (turnedOf g image p sram ≡ p) ⊎ ((length sram ≤ 16384) × (turnedOf g image p sram ≡ next)) → Follows (turnedOf g image p sram)
             turn (inl e) = moved _ p e follows

@@ -10,7 +10,7 @@ use native.Mathlib.Numerals.{add-one}
 use native.Mathlib.Omega.{arith}
 use lib.ListN.{length, getD}
 use Rattle.words.specs.Decline.{acceptedOf}
-use Rattle.machine.specs.Machine.{State, left}
+use Rattle.device.specs.State.{State}
 use Rattle.update.specs.Actions.{totalOf}
 use Rattle.update.specs.Turn.{nextActionOf, actionDeclineOf, performOf, turnOf}
 use Rattle.update.specs.PowerFail.{Position, at, turnedOf, turnsOf}
@@ -43,7 +43,7 @@ module _ (u : Fixed) where
 
       -- where its action leads
       abbrev next : Position
-      next = at (left (performOf g (p .state) sram (nextActionOf g (p .state) image (p .place)))) (p .place + 1)
+      next = at (performOf g (p .state) sram (nextActionOf g (p .state) image (p .place)) .state) (p .place + 1)
 
       performed : length sram ≤ 16384 → p .place < totalOf g → Stands u next
       performed short l =
@@ -59,10 +59,10 @@ module _ (u : Fixed) where
           go : Goes u (stands .device) (stands .new) (p .place) sram
           go = goes short l
 
-          leaves : left (performOf g (p .state) sram (nextActionOf g (p .state) image (p .place))) ≡ placed b (go .device) old (go .bank)
+          leaves : performOf g (p .state) sram (nextActionOf g (p .state) image (p .place)) .state ≡ placed b (go .device) old (go .bank)
           leaves =
-              ap (λ a. left (performOf g (p .state) sram a)) (stands-action l)
-              ∙ ap (λ (s : State). left (performOf g s sram (actionAt u (p .place)))) (stands .state)
+              ap (λ a. performOf g (p .state) sram a .state) (stands-action l)
+              ∙ ap (λ (s : State). performOf g s sram (actionAt u (p .place)) .state) (stands .state)
               ∙ go .leaves
 
       pub stands-turn : Stands u (turnedOf g image p sram)

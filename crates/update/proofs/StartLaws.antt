@@ -27,7 +27,8 @@ use Rattle.opening.specs.Opening.{openingOf}
 use Rattle.opening.proofs.OpeningLaws.{ready, opens}
 use Rattle.reads.specs.Read.{same}
 use Rattle.resets.specs.Reset.{comparedOf}
-use Rattle.machine.specs.Machine.{State, bankOf, Sound}
+use Rattle.device.specs.State.{State, bankOf}
+use Rattle.machine.specs.Machine.{Sound}
 use Rattle.update.specs.Actions.{totalOf}
 use Rattle.update.specs.Start.{lowerWordOf, otherWordOf, clashOf, lowerValidOf, resetKeepsOf, swapsAgreeOf, otherSafeOf, sequenceAllowsOf}
 use Rattle.update.specs.Start.{nextExistsOf, upperFreeOf, startDeclineOf, startOf}

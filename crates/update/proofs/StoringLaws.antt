@@ -15,8 +15,9 @@ use Rattle.words.proofs.BitLaws.{has-bit}
 use Rattle.geometry.specs.declared.banks.Geometry.{Geometry}
 use Rattle.device.specs.declared.record.Device.{Device}
 use Rattle.device.specs.Registers.{WREN, NVMOP, SWAPLOCK}
-use Rattle.device.specs.Record.{registerOf, withCon, bfswap, isOpen}
-use Rattle.access.specs.declared.store.Stored.{Stored}
+use Rattle.device.specs.Builders.{withCon}
+use Rattle.device.specs.Record.{registerOf, bfswap, isOpen}
+use Rattle.device.specs.declared.answer.Answer.{Answer}
 use Rattle.fields.specs.Fields.{wantedOf, conTakesOf}
 use Rattle.access.specs.Store.{hasFormOf, appliedOf, accepted, storeAcceptedOf, storeOf}
 use Rattle.launch.specs.ConStore.{conStoreOf}
@@ -85,7 +86,7 @@ module _ (g : Geometry) (d : Device) (rest : AtRest g d) (a : Access) (quiet : N
   unfolding storeAcceptedOf appliedOf
   store-shuts other =
       rw (store-runs g d rest (a .register) (a .form) (a .value) (quiet .form))
-      (pick-both (λ (s : Stored). s .device .keystep ≡ 0) (eqb (a .register) 0) refl (rw (not-true (eqb (a .register) 1) other)))
+      (pick-both (λ (s : Answer). s .device .keystep ≡ 0) (eqb (a .register) 0) refl (rw (not-true (eqb (a .register) 1) other)))
 
   store-keeps : pick (eqb (a .register) 0) (not (isOpen d)) true ≡ true
       → bit 6 (storeOf g d (a .register) (a .form) (a .value) .device .nvmcon .0) ≡ bit 6 (d .nvmcon .0)

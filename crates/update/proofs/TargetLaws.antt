@@ -19,10 +19,11 @@ use Rattle.map.specs.Windows.{upperBoot, upperProgram, windowStartOf, windowByt
 use Rattle.geometry.proofs.SizeLaws.{Unit, quad-unit, page-unit}
 use Rattle.map.proofs.WindowLaws.{window-found, round-found, page-below}
 use Rattle.device.specs.declared.record.Device.{Device}
+use Rattle.device.specs.State.{state}
 use Rattle.device.specs.Record.{opOf, bfswap, pfswap}
 use Rattle.protection.specs.Protection.{programProtectedOf}
 use Rattle.operation.specs.Operation.{unitOf, targetOf, targetBeginsOf, beginsAtOf}
-use Rattle.flash.specs.Effect.{stepAtOf, stepLocationOf, blockedOf, oldQuadOf, effect, effectAtOf, effectOf}
+use Rattle.flash.specs.Effect.{stepAtOf, stepLocationOf, blockedOf, effect, effectAtOf, effectOf}
 use Rattle.update.specs.Actions.{upperAddressOf, bankQuadsOf}
 
 -- where quad j of a bank stands on the upper side
@@ -147,27 +148,27 @@ module _ (g : Geometry) (ok : InRange g) where
     in-upper j = by-kind (λ (a : ℕ) (l : Location). inSecondOf l (bfswap d) (pfswap d) ≡ not (bfswap d)) j (λ k. refl) (λ k. ap not agree)
 
     place-effect : (j : ℕ) → stepLocationOf g d ≡ upperPlaceOf g j
-        → effectOf g d one two sram ≡ effectAtOf d sram (not (bfswap d)) j (oldQuadOf one two (not (bfswap d)) j)
+        → effectOf g (state d one two) sram ≡ effectAtOf d sram (not (bfswap d)) j (quadAt (pick (not (bfswap d)) two one) j)
     unfolding effectOf
     place-effect j at = rw (at, not-blocked j, in-upper j, place-quad j)
 
     -- step k of a page erase
     pub erase-effect : (p k : ℕ) → p < pagesOf g → k < pageQuadsOf g → opOf d ≡ 4 → d .nvmaddr ≡ upperAddressOf g (p * pageQuadsOf g) → d .step ≡ k
-        → effectOf g d one two sram ≡ effect false true (not (bfswap d)) (p * pageQuadsOf g + k) blankQuad
+        → effectOf g (state d one two) sram ≡ effect false true (not (bfswap d)) (p * pageQuadsOf g + k) blankQuad
     unfolding stepAtOf effectAtOf
     erase-effect p k h l op address step = place-effect (p * pageQuadsOf g + k) at ∙ erases
       where
         at : stepLocationOf g d ≡ upperPlaceOf g (p * pageQuadsOf g + k)
         at = rw (op, address, step, page-target p h) (page-place p k l)
 
-        erases : effectAtOf d sram (not (bfswap d)) (p * pageQuadsOf g + k) (oldQuadOf one two (not (bfswap d)) (p * pageQuadsOf g + k))
+        erases : effectAtOf d sram (not (bfswap d)) (p * pageQuadsOf g + k) (quadAt (pick (not (bfswap d)) two one) (p * pageQuadsOf g + k))
             ≡ effect false true (not (bfswap d)) (p * pageQuadsOf g + k) blankQuad
         erases = rw op
 
     -- the step of a quad that is blank
     pub program-effect : (j : ℕ) → j < bankQuadsOf g → opOf d ≡ 2 → d .nvmaddr ≡ upperAddressOf g j → d .step ≡ 0
         → quadAt (pick (not (bfswap d)) two one) j ≡ blankQuad
-        → effectOf g d one two sram ≡ effect false true (not (bfswap d)) j (d .nvmdata)
+        → effectOf g (state d one two) sram ≡ effect false true (not (bfswap d)) j (d .nvmdata)
     unfolding stepAtOf effectAtOf
     program-effect j h op address step blank = place-effect j at ∙ programs
       where
@@ -176,9 +177,5 @@ module _ (g : Geometry) (ok : InRange g) where
             rw (op, address, step, quad-target j h)
             (by-kind (λ (a : ℕ) (l : Location). located (l .program) (l .upper) (l .offset + 0) ≡ l) j (λ k. rw add-zero) (λ k. rw add-zero))
 
-        old : (second : Bool) → oldQuadOf one two second j ≡ quadAt (pick second two one) j
-        old true = refl
-        old false = refl
-
-        programs : effectAtOf d sram (not (bfswap d)) j (oldQuadOf one two (not (bfswap d)) j) ≡ effect false true (not (bfswap d)) j (d .nvmdata)
-        programs = rw (old (not (bfswap d)) ∙ blank, op)
+        programs : effectAtOf d sram (not (bfswap d)) j (quadAt (pick (not (bfswap d)) two one) j) ≡ effect false true (not (bfswap d)) j (d .nvmdata)
+        programs = ap (effectAtOf d sram (not (bfswap d)) j) blank ∙ rw op

@@ -5,7 +5,7 @@ use mathlib.Core.Path.{_≡_, refl, sym, ap, _∙_}
 use mathlib.Core.Bool.{Bool, true, false, _&&_}
 use mathlib.Core.List.{List, [], _∷_}
 use mathlib.Core.Logic.{_⊎_, inl, inr}
-use Prim.Native.Nat.{ℕ, _+_, _≤_, _<_}
+use Prim.Native.Nat.{ℕ, _≤_, _<_}
 use native.Mathlib.Omega.{arith}
 use lib.Dec.{eqb, ltb}
 use lib.ListN.{length}
@@ -22,11 +22,12 @@ use Rattle.device.specs.declared.record.Device.{Device}
 use Rattle.device.specs.Record.{running}
 use Rattle.opening.specs.Opening.{openingOf}
 use Rattle.opening.proofs.OpeningLaws.{Ready, ready, opens}
-use Rattle.access.specs.declared.store.Stored.{Stored}
+use Rattle.device.specs.declared.answer.Answer.{Answer}
 use Rattle.access.specs.Store.{storeAcceptedOf, storeOf}
 use Rattle.access.proofs.AcceptedLaws.{AtRest}
-use Rattle.flash.specs.Step.{After, stepOf}
-use Rattle.machine.specs.Machine.{Operation, State, left, Keeps, Sound}
+use Rattle.flash.specs.Step.{stepOf}
+use Rattle.device.specs.State.{State, After}
+use Rattle.machine.specs.Machine.{Operation, Keeps, Sound}
 use Rattle.machine.proofs.Machine.{controller}
 use Rattle.machine.proofs.StoreEquations.{store-runs}
 use Rattle.update.specs.declared.actions.Action.{Action}
@@ -87,16 +88,16 @@ module _ (g : Geometry) (s : State) (image sram : List ℕ) (place : ℕ) where
       rest true e h = true-not-false (sym h)
       rest false e h =
           let still : AtRest g (s .device) = record { listed = opened .lent .listed; range = opened .lent .range; possible = opened .possible; idle = e } in
-          ap (λ (a : Stored). a .decline) (store-runs g (s .device) still r form value ok)
-          ∙ pick-both (λ (a : Stored). a .decline ≡ Decline.Accepted) (eqb r 0) refl refl
+          ap (λ (a : Answer). a .decline) (store-runs g (s .device) still r form value ok)
+          ∙ pick-both (λ (a : Answer). a .decline ≡ Decline.Accepted) (eqb r 0) refl refl
   carries opened Step ok h = rest (running (s .device)) refl h
     where
       rest : (t : Bool) → running (s .device) ≡ t → acceptedOf (pick t Decline.Accepted Decline.Idle) ≡ true
-          → stepOf g (s .device) (s .one) (s .two) sram .decline ≡ Decline.Accepted
+          → stepOf g s sram .decline ≡ Decline.Accepted
       rest true e h =
           let banks = opened .lent .banks in
           ap (λ (a : After). a .decline)
-          (step-carried g (s .device) (s .one) (s .two) sram (opened .lent .listed) (opened .possible) (banks .0, banks .1 .0) (opened .lent .room) e)
+          (step-carried g s sram (opened .lent .listed) (record { possible = opened .possible; first = banks .0; other = banks .1 .0 }) (opened .lent .room) e)
       rest false e h = true-not-false (sym h)
 
   accepts : Accepts → turnDeclineOf g s image (length sram) place ≡ Decline.Accepted
@@ -211,6 +212,6 @@ turn-keeps g image p sram =
     s : State
     s = p .state
 
-    action : (a : Action) → Keeps g (p .state) (left (performOf g (p .state) sram a))
+    action : (a : Action) → Keeps g (p .state) (performOf g (p .state) sram a .state)
     action (Store r form value) = controller .keeps g (p .state) (Operation.store r form value)
     action Step = controller .keeps g (p .state) (Operation.step sram)

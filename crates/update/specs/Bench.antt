@@ -10,9 +10,9 @@ use Rattle.words.specs.declared.decline.Decline.{Decline}
 use Rattle.geometry.specs.Banks.{pagesOf, bankWordsOf}
 use Rattle.words.specs.Decline.{numberOf, acceptedOf}
 use Rattle.sequence.specs.Sequence.{sequenceIndexOf}
-use Rattle.device.specs.Record.{powerOn}
+use Rattle.device.specs.Builders.{powerOn}
 use Rattle.operation.specs.Bench as operation-bench
-use Rattle.machine.specs.Machine.{State, state}
+use Rattle.device.specs.State.{State, state}
 use Rattle.update.specs.Actions.{totalOf}
 use Rattle.update.specs.Start.{startOf}
 

@@ -6,7 +6,7 @@ use mathlib.Core.List.{List, []}
 use lib.ListN.{length, replicate}
 use Rattle.words.specs.Word.{allOnes}
 use Rattle.geometry.specs.Banks.{bankWordsOf}
-use Rattle.machine.specs.Machine.{State}
+use Rattle.device.specs.State.{State}
 use Rattle.update.specs.PowerFail.{afterTurns, placeAfter, Cut, restarted, Runs, Update}
 use Rattle.update.specs.Bench.{smallest, benchBank, benchState}
 

@@ -11,9 +11,9 @@ use Rattle.geometry.specs.declared.banks.Geometry.{Geometry}
 use Rattle.sequence.specs.Sequence.{sequenceQuadOf, nextSequenceOf}
 use Rattle.device.specs.Record.{bfswap, pfswap}
 use Rattle.start_up.specs.StartUp.{startUpOf}
-use Rattle.flash.specs.Step.{After}
 use Rattle.resets.specs.Reset.{resetOf}
-use Rattle.machine.specs.Machine.{State, state, left, bankOf, Keeps}
+use Rattle.device.specs.State.{State, bankOf, state, After}
+use Rattle.machine.specs.Machine.{Keeps}
 use Rattle.update.specs.Actions.{totalOf}
 use Rattle.update.specs.Start.{lowerWordOf, startOf}
 use Rattle.update.specs.Turn.{turnOf, EveryTurn}
@@ -49,19 +49,19 @@ pub record Cut : Type 0 where
   pub mask : List ℕ
 
 abbrev pub resetBy : Geometry → State → Cut → After
-resetBy g s c = resetOf g (s .device) (s .one) (s .two) (c .sram) (c .kind) (c .mask)
+resetBy g s c = resetOf g s (c .sram) (c .kind) (c .mask)
 
 -- "A start-up is completed when its last store is done."
 abbrev pub startedUp : Geometry → State → State
 startedUp g s = state (startUpOf g (s .device) .device) (s .one) (s .two)
 
 abbrev pub restarted : Geometry → State → Cut → State
-restarted g s c = startedUp g (left (resetBy g s c))
+restarted g s c = startedUp g (resetBy g s c .state)
 
 -- "Resets and start-ups .. count only where not declined."
 pub record Restarts (g : Geometry) (s : State) (c : Cut) : Type 0 where
   pub reset : acceptedOf (resetBy g s c .decline) ≡ true
-  pub start-up : acceptedOf (startUpOf g (resetBy g s c .device) .decline) ≡ true
+  pub start-up : acceptedOf (startUpOf g (resetBy g s c .state .device) .decline) ≡ true
 
 -- "old is the lower-alias bank at the start": bank 2, or bank 1
 abbrev pub old : State → Bool
@@ -102,13 +102,13 @@ pub record Claims (g : Geometry) (s : State) (image : List ℕ) (a b : State) : 
   -- last boot quad." A itself leaves that bank, and the reset and the start-up, declined or not, change no word of either bank
   pub new-runs : (c : Cut) → Restarts g a c → Runs (restarted g a c) (not (old s)) (newBankOf g s image)
   pub new-left : bankOf a (not (old s)) ≡ newBankOf g s image
-  pub banks-stay : (c : Cut) → SameBanks a (left (resetBy g a c)) × SameBanks a (restarted g a c)
+  pub banks-stay : (c : Cut) → SameBanks a (resetBy g a c .state) × SameBanks a (restarted g a c)
   -- "After B and a completed start-up it runs the old bank or exactly A's new one, never a mixture."
   pub old-or-new : (c : Cut) → Restarts g b c → let t = restarted g b c in
       Runs t (old s) (bankOf s (old s)) ⊎ Runs t (not (old s)) (bankOf a (not (old s)))
   -- "In both the old bank keeps every word"
   pub old-kept : OldKept s a × OldKept s b
-  pub old-kept-cut : (c : Cut) → OldKept s (left (resetBy g b c)) × OldKept s (restarted g b c)
+  pub old-kept-cut : (c : Cut) → OldKept s (resetBy g b c .state) × OldKept s (restarted g b c)
   -- "Where B runs the old bank, the same update is accepted again, and any list of its turns that reaches the total leaves both banks as A
   -- left them.": it is an update, so all of this holds of it, too
   pub again : (c : Cut) → Restarts g b c → let t = restarted g b c in
@@ -131,9 +131,9 @@ pub record PowerFail (g : Geometry) (image : List ℕ) : Type 0 where
       → length srams ≡ totalOf g → placeAfter g s image srams ≡ totalOf g
   -- of any state: "a declined turn leaves what it got", and so do a reset and a start-up
   pub turns : (p : Position) (sram : List ℕ) → EveryTurn g (p .state) image sram (p .place)
-  pub reset-declined : (s : State) (c : Cut) → acceptedOf (resetBy g s c .decline) ≡ false → left (resetBy g s c) ≡ s
+  pub reset-declined : (s : State) (c : Cut) → acceptedOf (resetBy g s c .decline) ≡ false → resetBy g s c .state ≡ s
   pub start-up-declined : (s : State) → acceptedOf (startUpOf g (s .device) .decline) ≡ false → startedUp g s ≡ s
   -- "and no page protected at the time of a step is changed by it, whole or torn"; and no bank changes its length
   pub turn-keeps : (p : Position) (sram : List ℕ) → Keeps g (p .state) (turnedOf g image p sram .state)
-  pub reset-keeps : (s : State) (c : Cut) → Keeps g s (left (resetBy g s c))
+  pub reset-keeps : (s : State) (c : Cut) → Keeps g s (resetBy g s c .state)
   pub start-up-keeps : (s : State) → Keeps g s (startedUp g s)

@@ -20,7 +20,7 @@ use Rattle.opening.specs.Opening.{openingOf}
 use Rattle.reads.specs.Read.{same}
 use Rattle.resets.specs.Reset.{comparedOf}
 use Rattle.parts.specs.Parts.{lowerOf}
-use Rattle.machine.specs.Machine.{State}
+use Rattle.device.specs.State.{State}
 use Rattle.update.specs.declared.start.Started.{Started}
 use Rattle.update.specs.Actions.{totalOf}
 

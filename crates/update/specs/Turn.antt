@@ -13,8 +13,12 @@ use Rattle.device.specs.declared.record.Device.{Device}
 use Rattle.device.specs.Record.{running}
 use Rattle.opening.specs.Opening.{openingOf}
 use Rattle.access.specs.Store.{hasFormOf, storeOf}
-use Rattle.flash.specs.Step.{After, after, stepOf}
-use Rattle.machine.specs.Machine.{State, left}
+use Rattle.flash.specs.Step.{stepOf}
+use Rattle.device.specs.State.{State, After, answeredOf, lent}
+use denote.Ref.{RefT}
+use Rattle.flash.specs.Write.{writtenOf}
+use Rattle.update.specs.declared.turn.Turned.{Turned}
+use Rattle.update.specs.declared.turn.TurnEffect.{TurnEffect}
 use Rattle.update.specs.declared.actions.Action.{Action}
 use Rattle.update.specs.declared.actions.Action.the-variants.{Store, Step}
 use Rattle.update.specs.Actions.{actionAtOf, totalOf}
@@ -49,13 +53,12 @@ turning decline done s place event = record { decline = decline; done = done; st
 
 -- everything after an action that is carried out
 abbrev pub performOf : Geometry → State → List ℕ → Action → After
-performOf g s sram (Store r form value) =
-    let a = storeOf g (s .device) r form value in after (a .decline) (a .device) (s .one) (s .two) (a .event)
-performOf g s sram Step = stepOf g (s .device) (s .one) (s .two) sram
+performOf g s sram (Store r form value) = answeredOf s (storeOf g (s .device) r form value)
+performOf g s sram Step = stepOf g s sram
 
 -- "Each turn does one action and raises the place by 1"
 abbrev pub performed : ℕ → After → Turning
-performed place a = turning (a .decline) false (left a) (place + 1) (a .event)
+performed place a = turning (a .decline) false (a .state) (place + 1) (a .event)
 
 -- a store of a register that has its form, as every store of the list is (`actions-formed` of proofs/FormLaws)
 abbrev pub Formed : Action → Type 0
@@ -74,6 +77,14 @@ turnOf g s image sram place =
     (pick (eqb place (totalOf g)) (turning Decline.Accepted true s place false)
     (performed place (performOf g s sram (nextActionOf g s image place))))
     (turning (turnDeclineOf g s image (length sram) place) false s place false)
+
+-- everything after the turn that has this effect, once it is written
+abbrev pub effectedOf : State → TurnEffect → Turning
+effectedOf s e = let t = e .turned in turning (t .decline) (t .done) (writtenOf s (t .device) (e .write)) (t .place) (t .event)
+
+-- in contracts: an answer with the banks as they are then
+abbrev pub turnLeaves : Turned → RefT (List ℕ) → RefT (List ℕ) → Turning
+turnLeaves t one two = turning (t .decline) (t .done) (lent (t .device) one two) (t .place) (t .event)
 
 -- what holds of every turn, whatever it is given
 pub record EveryTurn (g : Geometry) (s : State) (image sram : List ℕ) (place : ℕ) : Type 0 where

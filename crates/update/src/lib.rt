@@ -2,3 +2,4 @@
 // the code is in update_actions, update_start and update_turn.
 pub mod actions;
 pub mod start;
+pub mod turn;

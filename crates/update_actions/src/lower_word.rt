@@ -2,7 +2,7 @@
 ghost use mathlib.Core.Path.{_≡_};
 ghost use lib.ListN.{length};
 ghost use Rattle.geometry.specs.Banks.{InRange, bankWordsOf};
-ghost use Rattle.machine.specs.Machine.{state};
+ghost use Rattle.device.specs.State.{lent};
 ghost use Rattle.update.specs.Start.{lowerWordOf};
 use device::record::Device;
 use device::registers::Nvmcon;
@@ -14,7 +14,7 @@ use words::word::has;
 pub fn lower_word(g: Geometry, d: Device, one: &[u32], two: &[u32]) -> u32
     requires { ⌜ InRange g ⌝ }
     requires { ⌜ (length (now one) ≡ bankWordsOf g) × (length (now two) ≡ bankWordsOf g) ⌝ }
-    ensures { λ r. ⌜ r ≡ lowerWordOf g (state d (now (one .entry)) (now (two .entry))) ⌝ }
+    ensures { λ r. ⌜ r ≡ lowerWordOf g (lent d (one .entry) (two .entry)) ⌝ }
 {
     let i = sequence_index(g) as usize;
     if has(d.nvmcon.0, Nvmcon::BFSWAP) {

@@ -2,7 +2,7 @@
 ghost use mathlib.Core.Path.{_≡_};
 ghost use lib.ListN.{length};
 ghost use Rattle.geometry.specs.Banks.{InRange, bankWordsOf};
-ghost use Rattle.machine.specs.Machine.{state};
+ghost use Rattle.device.specs.State.{lent};
 ghost use Rattle.update.specs.Start.{clashOf, sequenceAllowsOf, upperFreeOf, startDeclineOf, startOf};
 use device::record::Device;
 use device::registers::Nvmbwp;
@@ -34,7 +34,7 @@ fn clashes(w: u32) -> bool
 fn sequence_allows(g: Geometry, d: Device, one: &[u32], two: &[u32]) -> bool
     requires { ⌜ InRange g ⌝ }
     requires { ⌜ (length (now one) ≡ bankWordsOf g) × (length (now two) ≡ bankWordsOf g) ⌝ }
-    ensures { λ r. ⌜ r ≡ sequenceAllowsOf g (state d (now (one .entry)) (now (two .entry))) ⌝ }
+    ensures { λ r. ⌜ r ≡ sequenceAllowsOf g (lent d (one .entry) (two .entry)) ⌝ }
 {
     if !is_valid(lower_word(g, d, one, two)) {
         return false;
@@ -66,7 +66,7 @@ fn is_upper_free(g: Geometry, d: Device) -> bool
 }
 
 fn start_decline(g: Geometry, d: Device, one: &[u32], two: &[u32], image: usize) -> Decline
-    ensures { λ r. ⌜ r ≡ startDeclineOf g (state d (now (one .entry)) (now (two .entry))) image ⌝ }
+    ensures { λ r. ⌜ r ≡ startDeclineOf g (lent d (one .entry) (two .entry)) image ⌝ }
 {
     let decline = opening(g, d, Lent::BanksAndImage(one.len(), two.len(), image), 0);
     if !decline.is_accepted() {
@@ -89,7 +89,7 @@ fn start_decline(g: Geometry, d: Device, one: &[u32], two: &[u32], image: usize)
 
 // Starts an update: it changes nothing.
 pub fn start(g: Geometry, d: Device, one: &[u32], two: &[u32], image: &[u32]) -> Started
-    ensures { λ r. ⌜ r ≡ startOf g (state d (now (one .entry)) (now (two .entry))) (now (image .entry)) ⌝ }
+    ensures { λ r. ⌜ r ≡ startOf g (lent d (one .entry) (two .entry)) (now (image .entry)) ⌝ }
 {
     let decline = start_decline(g, d, one, two, image.len());
     if !decline.is_accepted() {

@@ -1,65 +1,89 @@
-// One turn of an update.
+// One turn of an update: from both banks its effect, and then the one write.
 ghost use mathlib.Core.Path.{_≡_};
-ghost use Prim.Native.Nat.{_≤_, _<_};
-ghost use lib.ListN.{length};
 ghost use mathlib.Core.Bool.{true, false};
+ghost use Prim.Native.Nat.{_+_, _≤_, _<_};
+ghost use lib.ListN.{length};
 ghost use Rattle.geometry.specs.Banks.{inRangeOf, bankWordsOf};
+ghost use Rattle.device.specs.State.{lent};
 ghost use Rattle.opening.specs.Possible.{possibleOf};
-ghost use Rattle.machine.specs.Machine.{state};
-ghost use Rattle.update.specs.Turn.{Formed, turning, actOf, turnOf};
+ghost use Rattle.flash.specs.Write.{noWrite, Fits};
+ghost use Rattle.update.specs.Turn.{Formed, actOf, turnOf, effectedOf, turnLeaves};
 use access::store::store_accepted;
+use device::answer::Answer;
 use device::record::Device;
 use device::registers::Nvmcon;
-use flash::step::step_accepted;
+use flash::step::step_effect;
+use flash::write::Write;
+use flash::write::apply;
+use flash::write::no_write;
 use geometry::banks::Geometry;
 use geometry::lent::Lent;
 use opening::opening::opening;
 use update::actions::Action;
+use update::turn::TurnEffect;
+use update::turn::Turned;
 use update_actions::actions::action_at;
 use update_actions::actions::total;
 use update_actions::lower_word::lower_word;
 use words::decline::Decline;
 use words::word::has;
 
-// The answer to a turn. Where it is declined, and at the total, everything is as before.
-pub struct Turned {
-    pub decline: Decline,
-    pub done: bool,
-    pub device: Device,
-    pub place: u32,
-    pub event: bool,
-}
-
-// The answer of a turn that changes nothing.
-fn unchanged(decline: Decline, done: bool, d: Device, place: u32) -> Turned
-    ensures { λ r. ⌜ r ≡ record { decline = decline; done = done; device = d; place = place; event = false } ⌝ }
+// The effect of a turn that changes nothing.
+fn unchanged(decline: Decline, done: bool, d: Device, place: u32) -> TurnEffect
+    ensures { λ r. ⌜ r ≡ record { turned = record { decline = decline; done = done; device = d; place = place; event = false }; write = noWrite } ⌝ }
 {
-    Turned {
+    let turned = Turned {
         decline,
         done,
         device: d,
         place,
         event: false,
+    };
+    TurnEffect {
+        turned,
+        write: no_write(),
     }
 }
 
-// Performs the action of a place, or declines it. No call of the updater: turn judges the other declines first.
+// The effect of a turn whose action is carried out.
+fn going(answer: Answer, write: Write, place: u32) -> TurnEffect
+    requires { ⌜ place < 1000000 ⌝ }
+    ensures { λ r. ⌜ r ≡ record {
+      write = write;
+      turned =
+          record { decline = answer .decline; done = false; device = answer .device; place = place + 1; event = answer .event };
+    } ⌝ }
+{
+    let decline = answer.decline;
+    let device = answer.device;
+    let turned = Turned {
+        decline,
+        done: false,
+        device,
+        place: place + 1,
+        event: answer.event,
+    };
+    TurnEffect { turned, write }
+}
+
+// The effect of the action of a place, or its decline. No call of the updater: turn_effect judges the other declines first.
 fn act(
     g: Geometry,
     d: Device,
-    one: &mut [u32],
-    two: &mut [u32],
+    one: &[u32],
+    two: &[u32],
     sram: &[u32],
     place: u32,
     action: Action,
-) -> Turned
+) -> TurnEffect
     requires { ⌜ inRangeOf g ≡ true ⌝ }
     requires { ⌜ possibleOf g d ≡ true ⌝ }
     requires { ⌜ (length (now one) ≡ bankWordsOf g) × (length (now two) ≡ bankWordsOf g) ⌝ }
     requires { ⌜ length (now sram) ≤ 16384 ⌝ }
     requires { ⌜ Formed action ⌝ }
     requires { ⌜ place < 1000000 ⌝ }
-    ensures { λ r. ⌜ turning (r .decline) (r .done) (state (r .device) (now (one .exit)) (now (two .exit))) (r .place) (r .event) ≡ actOf g (state d (now (one .entry)) (now (two .entry))) (now (sram .entry)) place action ⌝ }
+    ensures { λ r. ⌜ effectedOf (lent d (one .entry) (two .entry)) r ≡ actOf g (lent d (one .entry) (two .entry)) (now (sram .entry)) place action ⌝ }
+    ensures { λ r. ⌜ Fits (now (one .entry)) (now (two .entry)) (r .write) ⌝ }
 {
     let running = has(d.nvmcon.0, Nvmcon::WR);
     match action {
@@ -67,46 +91,33 @@ fn act(
             if running {
                 return unchanged(Decline::Running, false, d, place);
             }
-            let stored = store_accepted(g, d, number, form, value);
-            let decline = stored.decline;
-            let device = stored.device;
-            Turned {
-                decline,
-                done: false,
-                device,
-                place: place + 1,
-                event: stored.event,
-            }
+            going(store_accepted(g, d, number, form, value), no_write(), place)
         }
         Action::Step => {
             if !running {
                 return unchanged(Decline::Idle, false, d, place);
             }
-            let stepped = step_accepted(g, d, one, two, sram);
-            let decline = stepped.decline;
-            let device = stepped.device;
-            Turned {
-                decline,
-                done: false,
-                device,
-                place: place + 1,
-                event: stepped.event,
-            }
+            let e = step_effect(g, d, one, two, sram);
+            let answer = e.answer;
+            let write = e.write;
+            going(answer, write, place)
         }
     }
 }
 
-// One turn: the action of its place and no other; done at the total and only there.
-pub fn turn(
+// The effect of a turn: the action of its place and no other; done at the total and only there.
+pub fn turn_effect(
     g: Geometry,
     d: Device,
-    one: &mut [u32],
-    two: &mut [u32],
+    one: &[u32],
+    two: &[u32],
     image: &[u32],
     sram: &[u32],
     place: u32,
-) -> Turned
-    ensures { λ r. ⌜ turning (r .decline) (r .done) (state (r .device) (now (one .exit)) (now (two .exit))) (r .place) (r .event) ≡ turnOf g (state d (now (one .entry)) (now (two .entry))) (now (image .entry)) (now (sram .entry)) place ⌝ }
+) -> TurnEffect
+    ensures { λ r. ⌜ effectedOf (lent d (one .entry) (two .entry)) r
+        ≡ turnOf g (lent d (one .entry) (two .entry)) (now (image .entry)) (now (sram .entry)) place ⌝ }
+    ensures { λ r. ⌜ Fits (now (one .entry)) (now (two .entry)) (r .write) ⌝ }
 {
     let lent = Lent::BanksAndImage(one.len(), two.len(), image.len());
     let decline = opening(g, d, lent, sram.len());
@@ -122,4 +133,22 @@ pub fn turn(
     }
     let action = action_at(g, image, lower_word(g, d, one, two), place);
     act(g, d, one, two, sram, place, action)
+}
+
+// One turn.
+pub fn turn(
+    g: Geometry,
+    d: Device,
+    one: &mut [u32],
+    two: &mut [u32],
+    image: &[u32],
+    sram: &[u32],
+    place: u32,
+) -> Turned
+    ensures { λ r. ⌜ turnLeaves r (one .exit) (two .exit) ≡ turnOf g (lent d (one .entry) (two .entry)) (now (image .entry)) (now (sram .entry)) place ⌝ }
+{
+    let e = turn_effect(g, d, one, two, image, sram, place);
+    let write = e.write;
+    apply(one, two, write);
+    e.turned
 }

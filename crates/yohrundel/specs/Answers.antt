@@ -4,15 +4,15 @@ use mathlib.Core.Path.{_≡_}
 use mathlib.Core.List.{List}
 use lib.ListN.{length}
 use Rattle.words.specs.Word.{pick}
-use Rattle.words.specs.declared.decline.Decline.{Decline}
 use Rattle.words.specs.Decline.{numberOf, acceptedOf}
 use Rattle.geometry.specs.declared.banks.Geometry.{Geometry}
 use Rattle.geometry.specs.Banks.{pageWordsOf}
 use Rattle.device.specs.declared.record.Device.{Device}
-use Rattle.access.specs.declared.store.Stored.{Stored}
+use Rattle.device.specs.declared.answer.Answer.{Answer}
 use Rattle.access.specs.declared.store.RegisterRead.{RegisterRead}
 use Rattle.start_up.specs.declared.start_up.StartedUp.{StartedUp}
-use Rattle.flash.specs.Step.{After}
+use denote.Ref.{RefT}
+use Rattle.device.specs.State.{After, lent}
 use Rattle.reads.specs.declared.read.FlashRead.{FlashRead}
 use Rattle.parts.specs.Parts.{lowerBankDeclineOf, lowerOf, lowerBankOf, pageDeclineOf}
 use Rattle.script.specs.declared.play.PlayLength.{PlayLength}
@@ -34,7 +34,7 @@ use Rattle.yohrundel.specs.declared.answers.PageSheetAnswer.{PageSheetAn
 
 -- ---- calls that lend nothing for writing: the answer is the definition's result
 
-abbrev pub storeAnswerOf : Stored → EventAnswer
+abbrev pub storeAnswerOf : Answer → EventAnswer
 storeAnswerOf a = record { decline = numberOf (a .decline); event = a .event; device = a .device }
 
 abbrev pub registerReadAnswerOf : RegisterRead → RegisterReadAnswer
@@ -75,17 +75,17 @@ pageAnswerOf g words page =
 
 -- ---- calls that lend banks or a buffer: the answer, and what the lent memory holds afterwards
 
-abbrev pub StepGives : After → EventAnswer → List ℕ → List ℕ → Type 0
+abbrev pub StepGives : After → EventAnswer → RefT (List ℕ) → RefT (List ℕ) → Type 0
 StepGives a r one two =
-    (r ≡ record { decline = numberOf (a .decline); event = a .event; device = a .device }) × ((one ≡ a .one) × (two ≡ a .two))
+    (r ≡ record { decline = numberOf (a .decline); event = a .event; device = a .state .device }) × (lent (r .device) one two ≡ a .state)
 
-abbrev pub ResetGives : After → DeviceAnswer → List ℕ → List ℕ → Type 0
-ResetGives a r one two =
-    (r ≡ record { decline = numberOf (a .decline); device = a .device }) × ((one ≡ a .one) × (two ≡ a .two))
+abbrev pub ResetGives : After → DeviceAnswer → RefT (List ℕ) → RefT (List ℕ) → Type 0
+ResetGives a r one two = (r ≡ record { decline = numberOf (a .decline); device = a .state .device }) × (lent (r .device) one two ≡ a .state)
 
 abbrev pub PlayGives : Playback → PlayAnswer → List ℕ → List ℕ → List ℕ → Type 0
 PlayGives a r one two buffer =
-    (r ≡ record { decline = numberOf (a .decline); bytes = a .bytes; device = a .after .device }) × ((one ≡ a .after .one) × ((two ≡ a .after .two) × (buffer ≡ a .buffer)))
+    (r ≡ record { decline = numberOf (a .decline); bytes = a .bytes; device = a .after .device }) ×
+    ((one ≡ a .after .one) × ((two ≡ a .after .two) × (buffer ≡ a .buffer)))
 
 abbrev pub PageSheetGives : Given → PageSheetAnswer → List ℕ → Type 0
 PageSheetGives a r buffer = (r ≡ record { decline = numberOf (a .decline); bytes = a .bytes }) × (buffer ≡ a .buffer)

@@ -1,6 +1,7 @@
 // The exported calls on a device and its banks.
 ghost use mathlib.Core.Path.{_≡_};
 ghost use lib.ListN.{length, take, drop};
+ghost use Rattle.device.specs.State.{lent};
 ghost use Rattle.flash.specs.Step.{stepOf};
 ghost use Rattle.resets.specs.Reset.{resetOf};
 ghost use Rattle.reads.specs.Read.{flashReadOf};
@@ -31,7 +32,7 @@ pub extern "C" fn yohrundel_flash_read(
     two: &[u32],
     address: u32,
 ) -> FlashReadAnswer
-    ensures { λ r. ⌜ r ≡ flashReadAnswerOf (flashReadOf g d (now (one .entry)) (now (two .entry)) address) ⌝ }
+    ensures { λ r. ⌜ r ≡ flashReadAnswerOf (flashReadOf g (lent d (one .entry) (two .entry)) address) ⌝ }
 {
     let a = flash_read(g, d, one, two, address);
     let decline = a.decline;
@@ -103,7 +104,7 @@ pub extern "C" fn yohrundel_step(
     two: &mut [u32],
     sram: &[u32],
 ) -> EventAnswer
-    ensures { λ r. ⌜ StepGives (stepOf g d (now (one .entry)) (now (two .entry)) (now (sram .entry))) r (now (one .exit)) (now (two .exit)) ⌝ }
+    ensures { λ r. ⌜ StepGives (stepOf g (lent d (one .entry) (two .entry)) (now (sram .entry))) r (one .exit) (two .exit) ⌝ }
 {
     let a = step(g, d, one, two, sram);
     let decline = a.decline;
@@ -125,7 +126,7 @@ pub extern "C" fn yohrundel_reset(
     kind: u32,
     mask: Mask,
 ) -> DeviceAnswer
-    ensures { λ r. ⌜ ResetGives (resetOf g d (now (one .entry)) (now (two .entry)) (now (sram .entry)) kind (mask .words)) r (now (one .exit)) (now (two .exit)) ⌝ }
+    ensures { λ r. ⌜ ResetGives (resetOf g (lent d (one .entry) (two .entry)) (now (sram .entry)) kind (mask .words)) r (one .exit) (two .exit) ⌝ }
 {
     let words = mask.words;
     let a = reset(g, d, one, two, sram, kind, words);

@@ -1,6 +1,6 @@
 // The exported calls on a device alone.
 ghost use mathlib.Core.Path.{_≡_};
-ghost use Rattle.device.specs.Record.{powerOn};
+ghost use Rattle.device.specs.Builders.{powerOn};
 ghost use Rattle.access.specs.Store.{storeOf, registerReadOf};
 ghost use Rattle.start_up.specs.StartUp.{startUpOf};
 ghost use Rattle.yohrundel.specs.Answers.{storeAnswerOf, registerReadAnswerOf, startUpAnswerOf};
@@ -9,8 +9,8 @@ use crate::answers::EventAnswer;
 use crate::answers::RegisterReadAnswer;
 use access::store::register_read;
 use access::store::store;
+use device::builders::power_on;
 use device::record::Device;
-use device::record::power_on;
 use geometry::banks::Geometry;
 use start_up::start_up::start_up;
 

@@ -1,6 +1,6 @@
 // The exported calls that play a script.
 ghost use mathlib.Core.Path.{_≡_};
-ghost use Rattle.machine.specs.Machine.{state};
+ghost use Rattle.device.specs.State.{lent};
 ghost use Rattle.script.specs.Play.{playOf, playLengthOf};
 ghost use Rattle.yohrundel.specs.Answers.{playLengthAnswerOf, PlayGives};
 use crate::answers::PlayAnswer;
@@ -20,7 +20,8 @@ pub extern "C" fn yohrundel_play(
     script: &[u8],
     out: &mut [u8],
 ) -> PlayAnswer
-    ensures { λ r. ⌜ PlayGives (playOf g (now (sram .entry)) (state d (now (one .entry)) (now (two .entry))) (now (script .entry)) (now (out .entry))) r (now (one .exit)) (now (two .exit)) (now (out .exit)) ⌝ }
+    ensures { λ r. ⌜ PlayGives (playOf g (now (sram .entry)) (lent d (one .entry) (two .entry)) (now (script .entry)) (now (out .entry))) r
+        (now (one .exit)) (now (two .exit)) (now (out .exit)) ⌝ }
 {
     let a = play(g, d, one, two, sram, script, out);
     let decline = a.decline;
@@ -41,7 +42,7 @@ pub extern "C" fn yohrundel_play_length(
     sram: &[u32],
     script: &[u8],
 ) -> PlayLengthAnswer
-    ensures { λ r. ⌜ r ≡ playLengthAnswerOf (playLengthOf g (now (sram .entry)) (state d (now (one .entry)) (now (two .entry))) (now (script .entry))) ⌝ }
+    ensures { λ r. ⌜ r ≡ playLengthAnswerOf (playLengthOf g (now (sram .entry)) (lent d (one .entry) (two .entry)) (now (script .entry))) ⌝ }
 {
     let a = play_length(g, d, one, two, sram, script);
     let decline = a.decline;

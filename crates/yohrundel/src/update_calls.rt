@@ -1,6 +1,6 @@
 // The exported calls of an update, the device by value.
 ghost use mathlib.Core.Path.{_≡_};
-ghost use Rattle.machine.specs.Machine.{state};
+ghost use Rattle.device.specs.State.{lent};
 ghost use Rattle.update.specs.Start.{startOf};
 ghost use Rattle.update.specs.Turn.{turnOf};
 ghost use Rattle.yohrundel_lent.specs.Answer.{TurnGives};
@@ -20,7 +20,7 @@ pub extern "C" fn yohrundel_update_start(
     two: &[u32],
     image: &[u32],
 ) -> UpdateStartAnswer
-    ensures { λ r. ⌜ r ≡ updateStartAnswerOf (startOf g (state d (now (one .entry)) (now (two .entry))) (now (image .entry))) ⌝ }
+    ensures { λ r. ⌜ r ≡ updateStartAnswerOf (startOf g (lent d (one .entry) (two .entry)) (now (image .entry))) ⌝ }
 {
     let a = start(g, d, one, two, image);
     let decline = a.decline;
@@ -41,7 +41,8 @@ pub extern "C" fn yohrundel_turn(
     sram: &[u32],
     place: u32,
 ) -> TurnAnswer
-    ensures { λ r. ⌜ TurnGives (turnOf g (state d (now (one .entry)) (now (two .entry))) (now (image .entry)) (now (sram .entry)) place) (r .outcome) (state (r .device) (now (one .exit)) (now (two .exit))) ⌝ }
+    ensures { λ r. ⌜ TurnGives (turnOf g (lent d (one .entry) (two .entry)) (now (image .entry)) (now (sram .entry)) place) (r .outcome)
+        (lent (r .device) (one .exit) (two .exit)) ⌝ }
 {
     turn_answer(g, d, one, two, image, sram, place)
 }

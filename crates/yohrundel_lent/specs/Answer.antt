@@ -1,7 +1,7 @@
 -- What an exported turn answers: the result of the turn's definition, its decline as the paper's number. Assumes nothing.
 use mathlib.Core.Path.{_≡_}
 use Rattle.words.specs.Decline.{numberOf}
-use Rattle.machine.specs.Machine.{State}
+use Rattle.device.specs.State.{State}
 use Rattle.update.specs.Turn.{Turning}
 use Rattle.yohrundel_lent.specs.declared.answer.TurnOutcome.{TurnOutcome}
 

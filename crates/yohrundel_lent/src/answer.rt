@@ -1,5 +1,5 @@
 // A turn with its answer as numbers.
-ghost use Rattle.machine.specs.Machine.{state};
+ghost use Rattle.device.specs.State.{lent};
 ghost use Rattle.update.specs.Turn.{turnOf};
 ghost use Rattle.yohrundel_lent.specs.Answer.{TurnGives};
 use device::record::Device;
@@ -31,7 +31,8 @@ pub fn turn_answer(
     sram: &[u32],
     place: u32,
 ) -> TurnAnswer
-    ensures { λ r. ⌜ TurnGives (turnOf g (state d (now (one .entry)) (now (two .entry))) (now (image .entry)) (now (sram .entry)) place) (r .outcome) (state (r .device) (now (one .exit)) (now (two .exit))) ⌝ }
+    ensures { λ r. ⌜ TurnGives (turnOf g (lent d (one .entry) (two .entry)) (now (image .entry)) (now (sram .entry)) place) (r .outcome)
+        (lent (r .device) (one .exit) (two .exit)) ⌝ }
 {
     let a = turn(g, d, one, two, image, sram, place);
     let decline = a.decline;

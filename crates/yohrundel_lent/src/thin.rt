@@ -1,5 +1,5 @@
 // The exported turn with the device record lent.
-ghost use Rattle.machine.specs.Machine.{state};
+ghost use Rattle.device.specs.State.{lent};
 ghost use Rattle.update.specs.Turn.{turnOf};
 ghost use Rattle.yohrundel_lent.specs.Answer.{TurnGives};
 use crate::answer::TurnOutcome;
@@ -18,7 +18,8 @@ pub extern "C" fn yohrundel_turn_lent(
     sram: &[u32],
     place: u32,
 ) -> TurnOutcome
-    ensures { λ r. ⌜ TurnGives (turnOf g (state (now (d .entry)) (now (one .entry)) (now (two .entry))) (now (image .entry)) (now (sram .entry)) place) r (state (now (d .exit)) (now (one .exit)) (now (two .exit))) ⌝ }
+    ensures { λ r. ⌜ TurnGives (turnOf g (lent (now (d .entry)) (one .entry) (two .entry)) (now (image .entry)) (now (sram .entry)) place) r
+        (lent (now (d .exit)) (one .exit) (two .exit)) ⌝ }
 {
     let t = turn_answer(g, *d, one, two, image, sram, place);
     *d = t.device;

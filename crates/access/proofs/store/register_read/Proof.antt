@@ -5,20 +5,22 @@ use Rattle.access.specs.Store.{registerReadOf}
 use Rattle.access.proofs.store.register_read.Statement.{statement}
 use Rattle.access.proofs.store.register_read.Tie as tie
 
-pub register-read-spec : {M : Type 1} → statement M
+was-read : tie.Need-returns
 unfolding registerReadOf
+was-read c =
+    let test = c .before .before in
+    rw (
+      c .with-con .ensures,
+      c .before .register .ensures,
+      ← test .before .before .read-decline .ensures,
+      sym (test .before .is-accepted .ensures) ∙ test .if1 .taken,
+    )
+
+declined : tie.Need-returns-2
+unfolding registerReadOf
+declined c = rw (← c .before .before .read-decline .ensures, sym (c .before .is-accepted .ensures) ∙ c .if1 .left)
+
+pub register-read-spec : {M : Type 1} → statement M
 register-read-spec =
     tie.close
-    (tie.spec
-    (λ c κs. search needs)
-    (λ c κs. search needs)
-    (λ c κs. search needs)
-    (λ c. rw (
-      c .register .ensures,
-      ← c .before .before .before .read-decline .ensures,
-      sym (c .before .before .is-accepted .ensures) ∙ c .before .if1 .taken,
-    ))
-    (λ c. rw (
-      ← c .before .before .read-decline .ensures,
-      sym (c .before .is-accepted .ensures) ∙ c .if1 .left,
-    )))
+    (tie.spec (λ c κs. search needs) (λ c κs. search needs) (λ c κs. search needs) (λ c κs. search needs) was-read declined)

@@ -5,15 +5,19 @@ use Rattle.access.specs.Store.{storeAcceptedOf}
 use Rattle.access.proofs.store.store_accepted.Statement.{statement}
 use Rattle.access.proofs.store.store_accepted.Tie as tie
 
-pub store-accepted-spec : {M : Type 1} → statement M
+nvmcon : tie.Need-returns
 unfolding storeAcceptedOf
+nvmcon c =
+    let test = c .before .before in
+    rw (c .with-con .ensures, c .before .con-store .ensures, test .before .wanted .ensures, test .before .before .register .ensures, test .if1 .taken)
+
+another : tie.Need-returns-2
+unfolding storeAcceptedOf
+another c =
+    let test = c .before in
+    rw (c .applied .ensures, test .before .wanted .ensures, test .before .before .register .ensures, ne-eqb _ _ (test .if1 .left))
+
+pub store-accepted-spec : {M : Type 1} → statement M
 store-accepted-spec =
     tie.close
-    (tie.spec
-    (λ c. search needs)
-    (λ c. search needs)
-    (λ c. search needs)
-    (λ c. search needs)
-    (λ c. rw (c .new .ensures, c .before .con-store .ensures, c .before .before .before .wanted .ensures, c .before .before .before .before .register .ensures, c .before .before .if1 .taken))
-    (λ c. search needs)
-    (λ c. rw (c .applied .ensures, c .before .before .wanted .ensures, c .before .before .before .register .ensures, ne-eqb _ _ (c .before .if1 .left))))
+    (tie.spec (λ c. search needs) (λ c. search needs) (λ c. search needs) (λ c. search needs) nvmcon (λ c. search needs) another)

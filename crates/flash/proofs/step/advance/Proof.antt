@@ -7,19 +7,50 @@ use Rattle.flash.proofs.EffectLaws.{steps-high}
 use Rattle.flash.proofs.step.advance.Statement.{statement}
 use Rattle.flash.proofs.step.advance.Tie as tie
 
-pub advance-spec : {M : Type 1} → statement M
+few-steps : tie.Need-add-next
+few-steps c = let start = c .before in omega (arith, steps-high (start .args .g) (start .args .d) (start .pre))
+
+aborted : tie.Need-returns
 unfolding advanceOf
+aborted c = rw (c .with-con .ensures, c .before .clear .ensures, c .before .before .if1 .taken)
+
+in-range : tie.Need-length-requires
+in-range c κs = c .before .before .before .pre .range
+
+last : tie.Need-returns-2
+unfolding advanceOf
+last c =
+    let counted = c .before .before in
+    let op = counted .before .before in
+    rw (
+      c .with-con2 .ensures,
+      c .before .clear2 .ensures,
+      ← op .op .ensures,
+      ← counted .before .length .ensures,
+      op .before .if1 .left,
+      eq-eqb _ _ (counted .if2 .taken),
+    )
+
+another : tie.Need-returns-3
+unfolding advanceOf
+another c =
+    let counted = c .before in
+    let op = counted .before .before in
+    rw (c .with-con3 .ensures, ← op .op .ensures, ← counted .before .length .ensures, op .before .if1 .left, ne-eqb _ _ (counted .if2 .left))
+
+pub advance-spec : {M : Type 1} → statement M
 advance-spec =
     tie.close
     (tie.spec
-    (λ c. omega (arith, steps-high (c .before .args .g) (c .before .args .d) (c .before .pre)))
+    few-steps
     (λ c κs. search needs)
     (λ c κs. search needs)
-    (λ c. rw (c .new .ensures, c .before .clear .ensures, c .before .before .if1 .taken))
+    aborted
     (λ c κs. search needs)
-    (λ c κs. c .before .before .before .pre .range)
+    in-range
     (λ c. search needs)
     (λ c κs. search needs)
     (λ c κs. search needs)
-    (λ c. rw (c .new2 .ensures, c .before .clear2 .ensures, ← c .before .before .before .before .op .ensures, ← c .before .before .before .length .ensures, c .before .before .before .before .before .if1 .left, eq-eqb _ _ (c .before .before .if2 .taken)))
-    (λ c. rw (← c .before .before .op .ensures, ← c .before .length .ensures, c .before .before .before .if1 .left, ne-eqb _ _ (c .if2 .left))))
+    last
+    (λ c κs. search needs)
+    another)

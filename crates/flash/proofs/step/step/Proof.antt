@@ -1,22 +1,62 @@
--- Declined, or carried out.
+-- Declined, or carried out and written.
 use borrow.Author.Needs.{needs}
 use borrow.Author.Tests.{not-true}
-use mathlib.Core.Path.{sym, _∙_}
+use mathlib.Core.Path.{_≡_, sym, ap, _∙_}
+use mathlib.Core.Bool.{true}
+use lib.ListN.{length}
+use Rattle.words.specs.Decline.{acceptedOf}
 use Rattle.words.proofs.DeclineLaws.{went-on}
-use Rattle.flash.specs.Step.{stepOf}
-use Rattle.flash.proofs.AcceptedLaws.{step-ready}
+use Rattle.device.specs.State.{lent}
+use Rattle.flash.specs.declared.step.StepEffect.{StepEffect}
+use Rattle.flash.specs.Step.{stepDeclineOf, stepOf}
+use Rattle.flash.proofs.EffectLaws.{effect-fits}
+use Rattle.flash.proofs.AcceptedLaws.{advance-accepts, step-ready}
 use Rattle.flash.proofs.step.step.Statement.{statement}
 use Rattle.flash.proofs.step.step.Tie as tie
 
-pub step-spec : {M : Type 1} → statement M
+declined : tie.Need-returns
 unfolding stepOf
+declined c = rw (← c .before .before .step-decline .ensures, sym (c .before .is-accepted .ensures) ∙ not-true _ (c .if1 .taken))
+
+accepted : (c : tie.Else1) → let a = c .before .before .before .before .before .before .args in
+    acceptedOf (stepDeclineOf (a .g) (a .d) (length (a .one .now)) (length (a .two .now)) (length (a .sram .now))) ≡ true
+accepted c = went-on (c .before .before .step-decline .ensures) (c .before .is-accepted .ensures) (c .if1 .left)
+
+runs : tie.Need-step-effect-requires
+runs c κs =
+    let (ready, on, _) = step-ready _ _ _ _ _ (accepted (c .before .before)) in
+    (on, (ready .lent .banks .0, ready .lent .banks .1 .0))
+
+fits : tie.Need-apply-requires
+fits c κs =
+    let effect = c .before .before .before in
+    let a = effect .before .before .before .before .before .before .before .before .before .args in
+    let (ready, on, _) = step-ready _ _ _ _ _ (accepted (effect .before .before .before)) in
+    rw (ap (λ (e : StepEffect). e .write) (effect .step-effect .ensures))
+    (effect-fits _ (lent (a .d) (a .one) (a .two)) (a .sram .now) on (ready .lent .banks .0, ready .lent .banks .1 .0))
+
+carried : tie.Need-returns-2
+unfolding stepOf
+carried c =
+    let written = c .before .before .before .before .before in
+    let effect = written .before .before .before .before in
+    rw (
+      written .apply .ensures .0,
+      written .apply .ensures .1,
+      accepted (effect .before .before .before),
+      effect .step-effect .ensures,
+      advance-accepts,
+    )
+
+pub step-spec : {M : Type 1} → statement M
 step-spec =
     tie.close
     (tie.spec
     (λ c κs. search needs)
     (λ c κs. search needs)
-    (λ c. rw (← c .before .before .step-decline .ensures, sym (c .before .is-accepted .ensures) ∙ not-true _ (c .if1 .taken)))
-    (λ c κs. let r = step-ready (c .before .before .before .before .before .before .before .before .args .g) (c .before .before .before .before .before .before .before .before .args .d) _ _ _ (went-on (c .before .before .before .before .step-decline .ensures) (c .before .before .before .is-accepted .ensures) (c .before .before .if1 .left)) in (r .1, (r .0 .lent .banks .0, r .0 .lent .banks .1 .0)))
+    declined
+    runs
+    fits
     (λ c. search needs)
     (λ c. search needs)
-    (λ c. rw (went-on (c .before .before .before .before .before .before .before .before .before .step-decline .ensures) (c .before .before .before .before .before .before .before .before .is-accepted .ensures) (c .before .before .before .before .before .before .before .if1 .left)) (c .before .before .before .before .step-accepted .ensures)))
+    carried)

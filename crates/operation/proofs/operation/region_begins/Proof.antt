@@ -4,9 +4,11 @@ use Rattle.operation.proofs.OperationLaws.{region-first}
 use Rattle.operation.proofs.operation.region_begins.Statement.{statement}
 use Rattle.operation.proofs.operation.region_begins.Tie as tie
 
+first-page : tie.Need-is-page-protected-requires
+first-page c κs = (c .pre, c .pre .p-low)
+
+returns : tie.Need-returns
+returns c = rw (c .is-page-protected .ensures) (sym (region-first _ (c .before .pre) _ _))
+
 pub region-begins-spec : {M : Type 1} → statement M
-region-begins-spec =
-    tie.close
-    (tie.spec
-    (λ c κs. (c .pre, c .pre .p-low))
-    (λ c. rw (c .is-protected .ensures) (sym (region-first _ (c .before .pre) _ _))))
+region-begins-spec = tie.close (tie.spec first-page returns)

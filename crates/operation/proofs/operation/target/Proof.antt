@@ -5,18 +5,12 @@ use Rattle.operation.proofs.OperationLaws.{unit-pos}
 use Rattle.operation.proofs.operation.target.Statement.{statement}
 use Rattle.operation.proofs.operation.target.Tie as tie
 
-pub target-spec : {M : Type 1} → statement M
+some-unit : tie.Need-round-down-requires
+some-unit c κs = rw (c .unit .ensures) (unit-pos _ (c .before .pre) _)
+
+returns : tie.Need-returns
 unfolding targetOf
-target-spec =
-    tie.close
-    (tie.spec
-    (λ c κs. search needs)
-    (λ c κs. search needs)
-    (λ c κs. rw (c .unit .ensures) (unit-pos _ (c .before .before .pre) _))
-    (λ c κs. search needs)
-    (λ c. rw (
-      c .locate .ensures,
-      c .before .round-down .ensures,
-      c .before .before .unit .ensures,
-      c .before .before .before .op .ensures,
-    )))
+returns c = rw (c .locate .ensures, c .before .round-down .ensures, c .before .before .unit .ensures)
+
+pub target-spec : {M : Type 1} → statement M
+target-spec = tie.close (tie.spec (λ c κs. search needs) some-unit (λ c κs. search needs) returns)

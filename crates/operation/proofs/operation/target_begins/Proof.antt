@@ -1,20 +1,48 @@
 -- Each way through the tests is a case of the definition.
 use borrow.Author.Tests.{not-true, not-false}
 use borrow.Author.Needs.{needs}
-use Rattle.protection.specs.Protection.{protectedOf}
 use Rattle.operation.specs.Operation.{targetBeginsOf}
 use Rattle.operation.proofs.OperationLaws.{target-page}
 use Rattle.operation.proofs.operation.target_begins.Statement.{statement}
 use Rattle.operation.proofs.operation.target_begins.Tie as tie
 
+outside : tie.Need-returns
+unfolding targetBeginsOf
+outside c =
+    let found = c .before .before in
+    rw (← found .target .ensures, not-true (found .target .result .inside) (c .if1 .taken))
+
+boot : tie.Need-returns-2
+unfolding targetBeginsOf
+boot c =
+    let inside = c .before .before in
+    let found = inside .before .before in
+    rw (← found .target .ensures, not-false (found .target .result .inside) (inside .if1 .left), not-true (found .target .result .program) (c .if2 .taken))
+
+program-page : tie.Need-is-page-protected-requires
+program-page c κs =
+    let program = c .before in
+    let inside = program .before .before in
+    let found = inside .before .before in
+    let ok = found .before .pre in (
+      ok,
+      rw (c .page .ensures)
+          (target-page _ ok _ _ _ (found .target .ensures) (not-false _ (inside .if1 .left)) (not-false _ (program .if2 .left))),
+    )
+
+program : tie.Need-returns-3
+unfolding targetBeginsOf
+program c =
+    let program = c .before .before in
+    let inside = program .before .before in
+    let found = inside .before .before in
+    rw (
+      c .is-page-protected .ensures,
+      c .before .page .ensures,
+      ← found .target .ensures,
+      not-false (found .target .result .inside) (inside .if1 .left),
+      not-false (found .target .result .program) (program .if2 .left),
+    )
+
 pub target-begins-spec : {M : Type 1} → statement M
-unfolding targetBeginsOf protectedOf
-target-begins-spec =
-    tie.close
-    (tie.spec
-    (λ c κs. search needs)
-    (λ c. rw (← c .before .before .target .ensures, not-true (c .before .before .target .result .inside) (c .if1 .taken)))
-    (λ c. rw (← c .before .before .before .before .target .ensures, not-false (c .before .before .before .before .target .result .inside) (c .before .before .if1 .left), not-true (c .before .before .before .before .target .result .program) (c .if2 .taken)))
-    (λ c κs. search needs)
-    (λ c κs. (c .before .before .before .before .before .before .pre, rw (c .page .ensures) (target-page _ (c .before .before .before .before .before .before .pre) _ _ _ (c .before .before .before .before .before .target .ensures) (not-false _ (c .before .before .before .if1 .left)) (not-false _ (c .before .if2 .left)))))
-    (λ c. rw (c .is-protected .ensures, c .before .page .ensures, ← c .before .before .before .before .before .before .target .ensures, not-false (c .before .before .before .before .before .before .target .result .inside) (c .before .before .before .before .if1 .left), not-false (c .before .before .before .before .before .before .target .result .program) (c .before .before .if2 .left))))
+target-begins-spec = tie.close (tie.spec (λ c κs. search needs) outside boot (λ c κs. search needs) program-page program)

@@ -5,18 +5,35 @@ use Rattle.play_record.specs.Record.{recordAfterOf}
 use Rattle.play_record.proofs.record.play_record.Statement.{statement}
 use Rattle.play_record.proofs.record.play_record.Tie as tie
 
-pub play-record-spec : {M : Type 1} → statement M
+a-store : tie.Need-returns
 unfolding recordAfterOf
+a-store c = rw (eq-eqb _ _ (c .before .if1 .taken), c .store .ensures)
+
+a-step : tie.Need-returns-2
+unfolding recordAfterOf
+a-step c =
+    let stepped = c .before .before .before .before in
+    let kind = stepped .before .before .before in
+    rw (ne-eqb _ _ (kind .before .before .if1 .left), eq-eqb _ _ (kind .if2 .taken)) (stepped .step .ensures)
+
+a-reset : tie.Need-returns-3
+unfolding recordAfterOf
+a-reset c =
+    let restarted = c .before .before .before .before .before in
+    let kind = restarted .before .before .before in
+    rw (ne-eqb _ _ (kind .before .before .if1 .left), ne-eqb _ _ (kind .if2 .left)) (restarted .reset .ensures)
+
+pub play-record-spec : {M : Type 1} → statement M
 play-record-spec =
     tie.close
     (tie.spec
     (λ c κs. search needs)
-    (λ c. rw (eq-eqb _ _ (c .before .before .if1 .taken), c .before .store .ensures))
+    a-store
     (λ c κs. search needs)
     (λ c. search needs)
     (λ c. search needs)
-    (λ c. rw (ne-eqb _ _ (c .before .before .before .before .before .before .before .before .before .if1 .left), eq-eqb _ _ (c .before .before .before .before .before .before .before .if2 .taken)) (c .before .before .before .before .step .ensures))
+    a-step
     (λ c κs. search needs)
     (λ c. search needs)
     (λ c. search needs)
-    (λ c. rw (ne-eqb _ _ (c .before .before .before .before .before .before .before .before .before .before .if1 .left), ne-eqb _ _ (c .before .before .before .before .before .before .before .before .if2 .left)) (c .before .before .before .before .before .reset .ensures)))
+    a-reset)

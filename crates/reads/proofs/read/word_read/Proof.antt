@@ -7,6 +7,36 @@ use Rattle.map.proofs.WindowLaws.{stands, word-in-bank}
 use Rattle.reads.proofs.read.word_read.Statement.{statement}
 use Rattle.reads.proofs.read.word_read.Tie as tie
 
+in-bank-2 : tie.Need-shared-slice-read-result
+in-bank-2 c =
+    let index = c .before .before .before in
+    let start = index .before .before .before .before in
+    let a = start .args in
+    let found = stands (a .g) (start .pre .0) (a .address) (start .pre .1 .1) in
+    rw (index .word-index .ensures, index .before .locate .ensures)
+    (omega (arith, word-in-bank (a .g) (start .pre .0) (locateOf (a .g) (a .address)) (found .room), start .pre .1 .0 .1))
+
+of-bank-2 : tie.Need-returns
+of-bank-2 c =
+    let test = c .before in
+    let index = test .before .before in
+    rw (index .word-index .ensures, ← index .before .locate .ensures, sym (test .before .second-at .ensures) ∙ test .if1 .taken)
+
+in-bank-1 : tie.Need-shared-slice-read-result-2
+in-bank-1 c =
+    let index = c .before .before .before in
+    let start = index .before .before .before .before in
+    let a = start .args in
+    let found = stands (a .g) (start .pre .0) (a .address) (start .pre .1 .1) in
+    rw (index .word-index .ensures, index .before .locate .ensures)
+    (omega (arith, word-in-bank (a .g) (start .pre .0) (locateOf (a .g) (a .address)) (found .room), start .pre .1 .0 .0))
+
+of-bank-1 : tie.Need-returns-2
+of-bank-1 c =
+    let test = c .before in
+    let index = test .before .before in
+    rw (index .word-index .ensures, ← index .before .locate .ensures, sym (test .before .second-at .ensures) ∙ test .if1 .left)
+
 pub word-read-spec : {M : Type 1} → statement M
 word-read-spec =
     tie.close
@@ -16,16 +46,8 @@ word-read-spec =
     (λ c. search needs)
     (λ c κs. search needs)
     (λ c. search needs)
-    (λ c. rw (c .before .before .before .word-index .ensures, c .before .before .before .before .locate .ensures) (omega (arith, (word-in-bank (c .before .before .before .before .before .before .before .args .g) (c .before .before .before .before .before .before .before .pre .0) (locateOf (c .before .before .before .before .before .before .before .args .g) (c .before .before .before .before .before .before .before .args .address)) (stands (c .before .before .before .before .before .before .before .args .g) (c .before .before .before .before .before .before .before .pre .0) (c .before .before .before .before .before .before .before .args .address) (c .before .before .before .before .before .before .before .pre .1 .1) .room)), c .before .before .before .before .before .before .before .pre .1 .0 .1)))
-    (λ c. rw (
-      c .before .before .before .word-index .ensures,
-      ← c .before .before .before .before .locate .ensures,
-      sym (c .before .before .second-at .ensures) ∙ c .before .if1 .taken,
-    ))
+    in-bank-2
+    of-bank-2
     (λ c. search needs)
-    (λ c. rw (c .before .before .before .word-index .ensures, c .before .before .before .before .locate .ensures) (omega (arith, (word-in-bank (c .before .before .before .before .before .before .before .args .g) (c .before .before .before .before .before .before .before .pre .0) (locateOf (c .before .before .before .before .before .before .before .args .g) (c .before .before .before .before .before .before .before .args .address)) (stands (c .before .before .before .before .before .before .before .args .g) (c .before .before .before .before .before .before .before .pre .0) (c .before .before .before .before .before .before .before .args .address) (c .before .before .before .before .before .before .before .pre .1 .1) .room)), c .before .before .before .before .before .before .before .pre .1 .0 .0)))
-    (λ c. rw (
-      c .before .before .before .word-index .ensures,
-      ← c .before .before .before .before .locate .ensures,
-      sym (c .before .before .second-at .ensures) ∙ c .before .if1 .left,
-    )))
+    in-bank-1
+    of-bank-1)

@@ -5,8 +5,42 @@ use Rattle.resets.specs.Reset.{resetDeviceOf}
 use Rattle.resets.proofs.reset.reset_device.Statement.{statement}
 use Rattle.resets.proofs.reset.reset_device.Tie as tie
 
-pub reset-device-spec : {M : Type 1} → statement M
+power-on : tie.Need-returns
 unfolding resetDeviceOf
+power-on c =
+    let test = c .before .before in
+    rw (
+      c .with-con .ensures,
+      c .before .power-on .ensures,
+      test .before .swapped .ensures,
+      test .before .before .reset-con .ensures,
+      eq-eqb _ _
+          (test .if1 .taken),
+    )
+
+-- the registers from NVMCON2 to NVMPWP
+another : tie.Need-returns-2
+unfolding resetDeviceOf
+another c =
+    let con2 = c .before in
+    let bwp = con2 .before .before .before in
+    let pwp = bwp .before .before in
+    let test = pwp .before .before in
+    rw (
+      c .with-con2 .ensures,
+      test .before .swapped .ensures,
+      test .before .before .reset-con .ensures,
+      pwp .new .ensures,
+      pwp .before .reset-value .ensures,
+      bwp .new2 .ensures,
+      bwp .before .reset-value2 .ensures,
+      con2 .new3 .ensures,
+      con2 .before .merge .ensures,
+      con2 .before .before .reset-value3 .ensures,
+      ne-eqb _ _ (test .if1 .left),
+    )
+
+pub reset-device-spec : {M : Type 1} → statement M
 reset-device-spec =
     tie.close
     (tie.spec
@@ -14,7 +48,7 @@ reset-device-spec =
     (λ c κs. search needs)
     (λ c κs. search needs)
     (λ c κs. search needs)
-    (λ c. rw (c .new .ensures, c .before .power-on .ensures, c .before .before .before .swapped .ensures, c .before .before .before .before .reset-con .ensures, eq-eqb _ _ (c .before .before .if1 .taken)))
+    power-on
     (λ c κs. search needs)
     (λ c κs. search needs)
     (λ c κs. search needs)
@@ -23,17 +57,4 @@ reset-device-spec =
     (λ c κs. search needs)
     (λ c κs. search needs)
     (λ c κs. search needs)
-    (λ c.
-    rw (
-      c .before .before .before .before .before .before .before .new2 .ensures,
-      c .before .before .before .before .before .before .before .before .before .swapped .ensures,
-      c .before .before .before .before .before .before .before .before .before .before .reset-con .ensures,
-      c .before .before .before .before .before .new3 .ensures,
-      c .before .before .before .before .before .before .reset-value .ensures,
-      c .before .before .before .new4 .ensures,
-      c .before .before .before .before .reset-value2 .ensures,
-      c .new5 .ensures,
-      c .before .merge .ensures,
-      c .before .before .reset-value3 .ensures,
-      ne-eqb _ _ (c .before .before .before .before .before .before .before .before .if1 .left),
-    )))
+    another)

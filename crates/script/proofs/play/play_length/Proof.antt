@@ -3,7 +3,7 @@ use borrow.Author.Needs.{needs}
 use borrow.Author.Tests.{not-true}
 use mathlib.Core.Path.{sym, _∙_}
 use Rattle.words.proofs.DeclineLaws.{went-on}
-use Rattle.machine.specs.Machine.{state}
+use Rattle.device.specs.State.{state}
 use Rattle.script.specs.Play.{playOf, playLengthOf}
 use Rattle.script.proofs.PlayLaws.{length-accepted}
 use Rattle.script.proofs.play.play_length.Statement.{statement}
@@ -20,4 +20,8 @@ play-length-spec =
     (λ c κs. search needs)
     (λ c.
     let a = c .before .before .before .before .before .before .before .before .args in
-    rw (length-accepted (a .g) (a .sram .now) (state (a .d) (a .one .now) (a .two .now)) (a .script .now) (went-on (c .before .before .before .play-decline .ensures) (c .before .before .is-accepted .ensures) (c .before .if1 .left)), c .lines-length .ensures)))
+    rw (
+      length-accepted (a .g) (a .sram .now) (state (a .d) (a .one .now) (a .two .now)) (a .script .now)
+          (went-on (c .before .before .before .play-decline .ensures) (c .before .before .is-accepted .ensures) (c .before .if1 .left)),
+      c .lines-length .ensures,
+    )))

@@ -1,0 +1,64 @@
+-- The device after a change of some of its registers: every record of a device is built here. Assumes nothing.
+use Prim.Native.Nat.{ℕ}
+use mathlib.Core.List.{List, [], _∷_}
+use lib.ListN.{getD}
+use Rattle.device.specs.declared.record.Device.{Device}
+use Rattle.device.specs.Registers.{resets}
+
+-- "power-on gives all reset values": the device then, before the comparison of the banks
+abbrev pub powerOn : Device
+powerOn =
+    record {
+      nvmcon = record { 0 = getD resets 0 0 };
+      nvmkey = getD resets 1 0;
+      nvmaddr = getD resets 2 0;
+      nvmdata = getD resets 3 0 ∷ getD resets 4 0 ∷ getD resets 5 0 ∷ getD resets 6 0 ∷ [];
+      nvmsrcaddr = getD resets 7 0;
+      nvmpwp = record { 0 = getD resets 8 0 };
+      nvmbwp = record { 0 = getD resets 9 0 };
+      nvmcon2 = record { 0 = getD resets 10 0 };
+      keystep = 0;
+      step = 0;
+    }
+
+-- the device with another NVMCON, key step and step number
+abbrev pub withCon : Device → ℕ → ℕ → ℕ → Device
+withCon d con keystep step =
+    record {
+      nvmcon = record { 0 = con };
+      nvmkey = d .nvmkey;
+      nvmaddr = d .nvmaddr;
+      nvmdata = d .nvmdata;
+      nvmsrcaddr = d .nvmsrcaddr;
+      nvmpwp = d .nvmpwp;
+      nvmbwp = d .nvmbwp;
+      nvmcon2 = d .nvmcon2;
+      keystep = keystep;
+      step = step;
+    }
+
+-- the device with other registers beside NVMCON and NVMKEY, and another key step
+abbrev pub withStored : Device → ℕ → List ℕ → ℕ → ℕ → ℕ → ℕ → ℕ → Device
+withStored d address quad source pwp bwp con2 keystep =
+    record {
+      nvmcon = d .nvmcon;
+      nvmkey = d .nvmkey;
+      nvmaddr = address;
+      nvmdata = quad;
+      nvmsrcaddr = source;
+      nvmpwp = record { 0 = pwp };
+      nvmbwp = record { 0 = bwp };
+      nvmcon2 = record { 0 = con2 };
+      keystep = keystep;
+      step = d .step;
+    }
+
+-- with another NVMADDR, NVMDATA or NVMBWP, and the key shut
+abbrev pub withAddress : Device → ℕ → Device
+withAddress d address = withStored d address (d .nvmdata) (d .nvmsrcaddr) (d .nvmpwp .0) (d .nvmbwp .0) (d .nvmcon2 .0) 0
+
+abbrev pub withData : Device → List ℕ → Device
+withData d quad = withStored d (d .nvmaddr) quad (d .nvmsrcaddr) (d .nvmpwp .0) (d .nvmbwp .0) (d .nvmcon2 .0) 0
+
+abbrev pub withBwp : Device → ℕ → Device
+withBwp d bwp = withStored d (d .nvmaddr) (d .nvmdata) (d .nvmsrcaddr) (d .nvmpwp .0) bwp (d .nvmcon2 .0) 0
