@@ -14,6 +14,21 @@ Inv-loop sign d one two image first₀ second₀ sums₀ number₀ first second 
 abbrev μ-loop : tie.MeasureT-loop
 μ-loop sign d one two image first₀ second₀ sums₀ number₀ first second sums number = 18 - number
 
+-- the test of the loop
+no-overflow : tie.Need-add-number Inv-loop μ-loop
+no-overflow c = let test = c .before .before .before .before .before .before .before .before .before .before .before .before .before .before .before in omega (arith, test .loop-test .taken)
+
+loop-less : tie.Need-loop-less Inv-loop μ-loop
+loop-less c = let test = c .before .before .before .before .before .before .before .before .before .before .before .before .before .before .before in omega (arith, test .loop-test .taken)
+
+loop-again : tie.Need-loop-again Inv-loop μ-loop
+loop-again c =
+    let cut = c .before .before .before .before in
+    let copied2 = cut .before .before .before .before .before in
+    let copied = copied2 .before .before .before .before in
+    let test = copied .before .before in
+    omega (arith, test .loop-test .taken, test .before .loop .inv, cut .put-cut .kept, copied .copy .kept, copied2 .copy2 .kept)
+
 pub put-cuts-spec : {M : Type 1} → statement M
 put-cuts-spec =
     tie.close
@@ -25,9 +40,9 @@ put-cuts-spec =
     (λ c κs. search needs)
     (λ c κs. search needs)
     (λ c κs. search needs)
-    (λ c. omega (arith, c .before .before .before .before .before .before .before .before .before .before .before .before .before .before .before .loop-test .taken))
-    (λ c. omega (arith, c .before .before .before .before .before .before .before .before .before .before .before .before .before .before .before .loop-test .taken))
-    (λ c. omega (arith, c .before .before .before .before .before .before .before .before .before .before .before .before .before .before .before .loop-test .taken, c .before .before .before .before .before .before .before .before .before .before .before .before .before .before .before .before .loop .inv, c .before .before .before .before .put-cut .kept, c .before .before .before .before .before .before .before .before .before .before .before .before .before .copy .kept, c .before .before .before .before .before .before .before .before .before .copy2 .kept))
+    no-overflow
+    loop-less
+    loop-again
     (λ c κs. search needs)
     (λ c. search needs)
     (λ c. search needs)

@@ -1,30 +1,132 @@
 -- The first test that fails decides.
-use mathlib.Core.Path.{sym, _∙_}
-use mathlib.Core.Bool.{not}
+use mathlib.Core.Bool.{true, false}
+use mathlib.Core.List.{[], _∷_}
+use mathlib.Core.Path.{_≡_, sym, _∙_}
 use lib.Dec.{eqb}
+use lib.ListN.{length}
 use borrow.Author.Tests.{eq-eqb, ne-eqb, not-true, not-false}
 use borrow.Author.Needs.{needs}
+use Rattle.words.specs.Decline.{acceptedOf}
 use Rattle.words.proofs.DeclineLaws.{stopped, went-on}
-use Rattle.opening.proofs.OpeningLaws.{ready}
-use Rattle.update.specs.Start.{startDeclineOf}
+use Rattle.sequence.specs.Sequence.{tseqOf}
+use Rattle.device.specs.Record.{running}
+use Rattle.device.specs.State.{lent}
+use Rattle.opening.specs.Opening.{openingOf}
+use Rattle.opening.proofs.OpeningLaws.{Ready, ready}
+use Rattle.update.specs.Start.{lowerWordOf, sequenceAllowsOf, startDeclineOf}
 use Rattle.update_start.proofs.start.start_decline.Statement.{statement}
 use Rattle.update_start.proofs.start.start_decline.Tie as tie
 
-pub start-decline-spec : {M : Type 1} → statement M
+declined : tie.Need-returns
 unfolding startDeclineOf
+declined c =
+    let e = c .before .before .opening .ensures in
+    rw (stopped e (c .before .is-accepted .ensures) (c .if1 .taken)) e
+
+-- ---- what holds after each test that does not decline
+
+-- none of declines 1 to 3 applies
+accepted : (c : tie.Else1) → let a = c .before .before .before .before .before .args in
+    acceptedOf (openingOf (a .g) (a .d) (length (a .one .now) ∷ length (a .two .now) ∷ a .image ∷ []) 0) ≡ true
+accepted c = went-on (c .before .before .opening .ensures) (c .before .is-accepted .ensures) (c .if1 .left)
+
+opened : (c : tie.Else1) → let a = c .before .before .before .before .before .args in
+    Ready (a .g) (a .d) (length (a .one .now) ∷ length (a .two .now) ∷ a .image ∷ []) 0
+opened c = ready _ _ _ _ (accepted c)
+
+-- no operation runs
+idle : (c : tie.Else2) → running (c .before .before .before .before .before .before .before .args .d) ≡ false
+idle c = sym (c .before .has .ensures) ∙ c .if2 .left
+
+-- decline 10 does not apply
+allowed : (c : tie.Else3) → let a = c .before .before .before .before .before .before .before .before .before .args in
+    sequenceAllowsOf (a .g) (lent (a .d) (a .one) (a .two)) ≡ true
+allowed c = sym (c .before .sequence-allows .ensures) ∙ not-false _ (c .if3 .left)
+
+-- decline 11 does not apply
+next : (c : tie.Else4) → let a = c .before .before .before .before .before .before .before .before .before .before .before .before .args in
+    eqb (tseqOf (lowerWordOf (a .g) (lent (a .d) (a .one) (a .two)))) 65535 ≡ false
+next c = rw (← c .before .before .lower-word .ensures, ← c .before .tseq .ensures) (ne-eqb _ _ (c .if4 .left))
+
+-- ---- what each call asks for, and what each return gives
+
+runs : tie.Need-returns-2
+unfolding startDeclineOf
+runs c = rw (accepted (c .before .before), sym (c .before .has .ensures) ∙ c .if2 .taken)
+
+lengths : tie.Need-sequence-allows-requires
+lengths c κs =
+    let r = opened (c .before .before) in
+    (r .lent .range, (r .lent .banks .0, r .lent .banks .1 .0))
+
+refused : tie.Need-returns-3
+unfolding startDeclineOf
+refused c =
+    let on = c .before .before in
+    rw (accepted (on .before .before), idle on, sym (c .before .sequence-allows .ensures) ∙ not-true _ (c .if3 .taken))
+
+same-lengths : tie.Need-lower-word-requires
+same-lengths c κs =
+    let r = opened (c .before .before .before .before) in
+    (r .lent .range, (r .lent .banks .0, r .lent .banks .1 .0))
+
+last : tie.Need-returns-4
+unfolding startDeclineOf
+last c =
+    let word = c .before .before in
+    let on = word .before .before .before in
+    rw (
+      accepted (on .before .before),
+      idle on,
+      allowed (word .before),
+      ← word .lower-word .ensures,
+      ← c .before .tseq .ensures,
+      eq-eqb _ _ (c .if4 .taken),
+    )
+
+ranged : tie.Need-is-upper-free-requires
+ranged c κs = opened (c .before .before .before .before .before .before .before) .lent .range
+
+protected : tie.Need-returns-5
+unfolding startDeclineOf
+protected c =
+    let tested = c .before .before in
+    let on = tested .before .before .before .before .before in
+    rw (
+      accepted (on .before .before),
+      idle on,
+      allowed (tested .before .before .before),
+      next tested,
+      sym (c .before .is-upper-free .ensures) ∙ not-true _ (c .if5 .taken),
+    )
+
+begins : tie.Need-returns-6
+unfolding startDeclineOf
+begins c =
+    let tested = c .before .before in
+    let on = tested .before .before .before .before .before in
+    rw (
+      accepted (on .before .before),
+      idle on,
+      allowed (tested .before .before .before),
+      next tested,
+      sym (c .before .is-upper-free .ensures) ∙ not-false _ (c .if5 .left),
+    )
+
+pub start-decline-spec : {M : Type 1} → statement M
 start-decline-spec =
     tie.close
     (tie.spec
     (λ c κs. search needs)
     (λ c κs. search needs)
-    (λ c. let e = c .before .before .opening .ensures in rw (stopped e (c .before .is-accepted .ensures) (c .if1 .taken)) e)
+    declined
     (λ c κs. search needs)
-    (λ c. rw (went-on (c .before .before .before .before .opening .ensures) (c .before .before .before .is-accepted .ensures) (c .before .before .if1 .left), sym (c .before .has .ensures) ∙ c .if2 .taken))
-    (λ c κs. (let r = (ready (c .before .before .before .before .before .before .before .args .g) (c .before .before .before .before .before .before .before .args .d) _ _ (went-on (c .before .before .before .before .opening .ensures) (c .before .before .before .is-accepted .ensures) (c .before .before .if1 .left))) in (r .lent .range, (r .lent .banks .0, r .lent .banks .1 .0))))
-    (λ c. rw (went-on (c .before .before .before .before .before .before .opening .ensures) (c .before .before .before .before .before .is-accepted .ensures) (c .before .before .before .before .if1 .left), sym (c .before .before .before .has .ensures) ∙ c .before .before .if2 .left, sym (c .before .sequence-allows .ensures) ∙ not-true _ (c .if3 .taken)))
-    (λ c κs. (let r = (ready (c .before .before .before .before .before .before .before .before .before .args .g) (c .before .before .before .before .before .before .before .before .before .args .d) _ _ (went-on (c .before .before .before .before .before .before .opening .ensures) (c .before .before .before .before .before .is-accepted .ensures) (c .before .before .before .before .if1 .left))) in (r .lent .range, (r .lent .banks .0, r .lent .banks .1 .0))))
+    runs
+    lengths
+    refused
+    same-lengths
     (λ c κs. search needs)
-    (λ c. rw (went-on (c .before .before .before .before .before .before .before .before .before .opening .ensures) (c .before .before .before .before .before .before .before .before .is-accepted .ensures) (c .before .before .before .before .before .before .before .if1 .left), sym (c .before .before .before .before .before .before .has .ensures) ∙ c .before .before .before .before .before .if2 .left, sym (c .before .before .before .before .sequence-allows .ensures) ∙ not-false _ (c .before .before .before .if3 .left), ← c .before .before .lower-word .ensures, ← c .before .tseq .ensures, eq-eqb _ _ (c .if4 .taken)))
-    (λ c κs. (ready (c .before .before .before .before .before .before .before .before .before .before .before .before .args .g) (c .before .before .before .before .before .before .before .before .before .before .before .before .args .d) _ _ (went-on (c .before .before .before .before .before .before .before .before .before .opening .ensures) (c .before .before .before .before .before .before .before .before .is-accepted .ensures) (c .before .before .before .before .before .before .before .if1 .left))) .lent .range)
-    (λ c. rw (went-on (c .before .before .before .before .before .before .before .before .before .before .before .opening .ensures) (c .before .before .before .before .before .before .before .before .before .before .is-accepted .ensures) (c .before .before .before .before .before .before .before .before .before .if1 .left), sym (c .before .before .before .before .before .before .before .before .has .ensures) ∙ c .before .before .before .before .before .before .before .if2 .left, sym (c .before .before .before .before .before .before .sequence-allows .ensures) ∙ not-false _ (c .before .before .before .before .before .if3 .left), ← c .before .before .before .before .lower-word .ensures, ← c .before .before .before .tseq .ensures, ne-eqb _ _ (c .before .before .if4 .left), sym (c .before .is-upper-free .ensures) ∙ not-true _ (c .if5 .taken)))
-    (λ c. rw (went-on (c .before .before .before .before .before .before .before .before .before .before .before .opening .ensures) (c .before .before .before .before .before .before .before .before .before .before .is-accepted .ensures) (c .before .before .before .before .before .before .before .before .before .if1 .left), sym (c .before .before .before .before .before .before .before .before .has .ensures) ∙ c .before .before .before .before .before .before .before .if2 .left, sym (c .before .before .before .before .before .before .sequence-allows .ensures) ∙ not-false _ (c .before .before .before .before .before .if3 .left), ← c .before .before .before .before .lower-word .ensures, ← c .before .before .before .tseq .ensures, ne-eqb _ _ (c .before .before .if4 .left), sym (c .before .is-upper-free .ensures) ∙ not-false _ (c .if5 .left))))
+    last
+    ranged
+    protected
+    begins)

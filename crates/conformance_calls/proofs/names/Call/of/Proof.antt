@@ -6,181 +6,117 @@ use Rattle.conformance_calls.proofs.NameLaws.{named, unnamed}
 use Rattle.conformance_calls.proofs.names.Call.of.Statement.{statement}
 use Rattle.conformance_calls.proofs.names.Call.of.Tie as tie
 
-slice-aggregate-same : tie.Need-slice-aggregate-same
-slice-aggregate-same c = search needs
+-- ---- each name, by the test that found it
+compare : tie.Need-returns
+compare c = named _ Call.Compare refl (c .before .same .ensures .0 (c .if1 .taken))
 
-same-requires : tie.Need-same-requires
-same-requires c κs = search needs
+possible : tie.Need-returns-2
+possible c = named _ Call.Possible refl (c .before .same2 .ensures .0 (c .if2 .taken))
 
-returns : tie.Need-returns
-returns c = named _ Call.Compare refl (c .before .same .ensures .0 (c .if1 .taken))
+protected : tie.Need-returns-3
+protected c = named _ Call.Protected refl (c .before .same3 .ensures .0 (c .if3 .taken))
 
-slice-aggregate-same-2 : tie.Need-slice-aggregate-same-2
-slice-aggregate-same-2 c = search needs
+store : tie.Need-returns-4
+store c = named _ Call.Store refl (c .before .same4 .ensures .0 (c .if4 .taken))
 
-same-requires-2 : tie.Need-same-requires-2
-same-requires-2 c κs = search needs
+register-read : tie.Need-returns-5
+register-read c = named _ Call.RegisterRead refl (c .before .same5 .ensures .0 (c .if5 .taken))
 
-returns-2 : tie.Need-returns-2
-returns-2 c = named _ Call.Possible refl (c .before .same2 .ensures .0 (c .if2 .taken))
+flash-read : tie.Need-returns-6
+flash-read c = named _ Call.FlashRead refl (c .before .same6 .ensures .0 (c .if6 .taken))
 
-slice-aggregate-same-3 : tie.Need-slice-aggregate-same-3
-slice-aggregate-same-3 c = search needs
+lower-bank : tie.Need-returns-7
+lower-bank c = named _ Call.LowerBank refl (c .before .same7 .ensures .0 (c .if7 .taken))
 
-same-requires-3 : tie.Need-same-requires-3
-same-requires-3 c κs = search needs
+page : tie.Need-returns-8
+page c = named _ Call.Page refl (c .before .same8 .ensures .0 (c .if8 .taken))
 
-returns-3 : tie.Need-returns-3
-returns-3 c = named _ Call.Protected refl (c .before .same3 .ensures .0 (c .if3 .taken))
+step : tie.Need-returns-9
+step c = named _ Call.Step refl (c .before .same9 .ensures .0 (c .if9 .taken))
 
-slice-aggregate-same-4 : tie.Need-slice-aggregate-same-4
-slice-aggregate-same-4 c = search needs
+reset : tie.Need-returns-10
+reset c = named _ Call.Reset refl (c .before .same10 .ensures .0 (c .if10 .taken))
 
-same-requires-4 : tie.Need-same-requires-4
-same-requires-4 c κs = search needs
+start-up : tie.Need-returns-11
+start-up c = named _ Call.StartUp refl (c .before .same11 .ensures .0 (c .if11 .taken))
 
-returns-4 : tie.Need-returns-4
-returns-4 c = named _ Call.Store refl (c .before .same4 .ensures .0 (c .if4 .taken))
+update-start : tie.Need-returns-12
+update-start c = named _ Call.UpdateStart refl (c .before .same12 .ensures .0 (c .if12 .taken))
 
-slice-aggregate-same-5 : tie.Need-slice-aggregate-same-5
-slice-aggregate-same-5 c = search needs
+turn : tie.Need-returns-13
+turn c = named _ Call.Turn refl (c .before .same13 .ensures .0 (c .if13 .taken))
 
-same-requires-5 : tie.Need-same-requires-5
-same-requires-5 c κs = search needs
-
-returns-5 : tie.Need-returns-5
-returns-5 c = named _ Call.RegisterRead refl (c .before .same5 .ensures .0 (c .if5 .taken))
-
-slice-aggregate-same-6 : tie.Need-slice-aggregate-same-6
-slice-aggregate-same-6 c = search needs
-
-same-requires-6 : tie.Need-same-requires-6
-same-requires-6 c κs = search needs
-
-returns-6 : tie.Need-returns-6
-returns-6 c = named _ Call.FlashRead refl (c .before .same6 .ensures .0 (c .if6 .taken))
-
-slice-aggregate-same-7 : tie.Need-slice-aggregate-same-7
-slice-aggregate-same-7 c = search needs
-
-same-requires-7 : tie.Need-same-requires-7
-same-requires-7 c κs = search needs
-
-returns-7 : tie.Need-returns-7
-returns-7 c = named _ Call.LowerBank refl (c .before .same7 .ensures .0 (c .if7 .taken))
-
-slice-aggregate-same-8 : tie.Need-slice-aggregate-same-8
-slice-aggregate-same-8 c = search needs
-
-same-requires-8 : tie.Need-same-requires-8
-same-requires-8 c κs = search needs
-
-returns-8 : tie.Need-returns-8
-returns-8 c = named _ Call.Page refl (c .before .same8 .ensures .0 (c .if8 .taken))
-
-slice-aggregate-same-9 : tie.Need-slice-aggregate-same-9
-slice-aggregate-same-9 c = search needs
-
-same-requires-9 : tie.Need-same-requires-9
-same-requires-9 c κs = search needs
-
-returns-9 : tie.Need-returns-9
-returns-9 c = named _ Call.Step refl (c .before .same9 .ensures .0 (c .if9 .taken))
-
-slice-aggregate-same-10 : tie.Need-slice-aggregate-same-10
-slice-aggregate-same-10 c = search needs
-
-same-requires-10 : tie.Need-same-requires-10
-same-requires-10 c κs = search needs
-
-returns-10 : tie.Need-returns-10
-returns-10 c = named _ Call.Reset refl (c .before .same10 .ensures .0 (c .if10 .taken))
-
-slice-aggregate-same-11 : tie.Need-slice-aggregate-same-11
-slice-aggregate-same-11 c = search needs
-
-same-requires-11 : tie.Need-same-requires-11
-same-requires-11 c κs = search needs
-
-returns-11 : tie.Need-returns-11
-returns-11 c = named _ Call.StartUp refl (c .before .same11 .ensures .0 (c .if11 .taken))
-
-slice-aggregate-same-12 : tie.Need-slice-aggregate-same-12
-slice-aggregate-same-12 c = search needs
-
-same-requires-12 : tie.Need-same-requires-12
-same-requires-12 c κs = search needs
-
-returns-12 : tie.Need-returns-12
-returns-12 c = named _ Call.UpdateStart refl (c .before .same12 .ensures .0 (c .if12 .taken))
-
-slice-aggregate-same-13 : tie.Need-slice-aggregate-same-13
-slice-aggregate-same-13 c = search needs
-
-same-requires-13 : tie.Need-same-requires-13
-same-requires-13 c κs = search needs
-
-returns-13 : tie.Need-returns-13
-returns-13 c = named _ Call.Turn refl (c .before .same13 .ensures .0 (c .if13 .taken))
-
-returns-14 : tie.Need-returns-14
-returns-14 c =
+-- none of them: each test that failed, from the last to the first
+unknown : tie.Need-returns-14
+unknown t13 =
+    let t12 = t13 .before .before .before in
+    let t11 = t12 .before .before .before in
+    let t10 = t11 .before .before .before in
+    let t9 = t10 .before .before .before in
+    let t8 = t9 .before .before .before in
+    let t7 = t8 .before .before .before in
+    let t6 = t7 .before .before .before in
+    let t5 = t6 .before .before .before in
+    let t4 = t5 .before .before .before in
+    let t3 = t4 .before .before .before in
+    let t2 = t3 .before .before .before in
+    let t1 = t2 .before .before .before in
     unnamed _
-    (differ _ _ (c .before .before .before .before .before .before .before .before .before .before .before .before .before .before .before .before .before .before .before .before .before .before .before .before .before .before .before .before .before .before .before .before .before .before .before .before .before .same .result) (c .before .before .before .before .before .before .before .before .before .before .before .before .before .before .before .before .before .before .before .before .before .before .before .before .before .before .before .before .before .before .before .before .before .before .before .before .if1 .left) (c .before .before .before .before .before .before .before .before .before .before .before .before .before .before .before .before .before .before .before .before .before .before .before .before .before .before .before .before .before .before .before .before .before .before .before .before .before .same .ensures .1))
-    (differ _ _ (c .before .before .before .before .before .before .before .before .before .before .before .before .before .before .before .before .before .before .before .before .before .before .before .before .before .before .before .before .before .before .before .before .before .before .same2 .result) (c .before .before .before .before .before .before .before .before .before .before .before .before .before .before .before .before .before .before .before .before .before .before .before .before .before .before .before .before .before .before .before .before .before .if2 .left) (c .before .before .before .before .before .before .before .before .before .before .before .before .before .before .before .before .before .before .before .before .before .before .before .before .before .before .before .before .before .before .before .before .before .before .same2 .ensures .1))
-    (differ _ _ (c .before .before .before .before .before .before .before .before .before .before .before .before .before .before .before .before .before .before .before .before .before .before .before .before .before .before .before .before .before .before .before .same3 .result) (c .before .before .before .before .before .before .before .before .before .before .before .before .before .before .before .before .before .before .before .before .before .before .before .before .before .before .before .before .before .before .if3 .left) (c .before .before .before .before .before .before .before .before .before .before .before .before .before .before .before .before .before .before .before .before .before .before .before .before .before .before .before .before .before .before .before .same3 .ensures .1))
-    (differ _ _ (c .before .before .before .before .before .before .before .before .before .before .before .before .before .before .before .before .before .before .before .before .before .before .before .before .before .before .before .before .same4 .result) (c .before .before .before .before .before .before .before .before .before .before .before .before .before .before .before .before .before .before .before .before .before .before .before .before .before .before .before .if4 .left) (c .before .before .before .before .before .before .before .before .before .before .before .before .before .before .before .before .before .before .before .before .before .before .before .before .before .before .before .before .same4 .ensures .1))
-    (differ _ _ (c .before .before .before .before .before .before .before .before .before .before .before .before .before .before .before .before .before .before .before .before .before .before .before .before .before .same5 .result) (c .before .before .before .before .before .before .before .before .before .before .before .before .before .before .before .before .before .before .before .before .before .before .before .before .if5 .left) (c .before .before .before .before .before .before .before .before .before .before .before .before .before .before .before .before .before .before .before .before .before .before .before .before .before .same5 .ensures .1))
-    (differ _ _ (c .before .before .before .before .before .before .before .before .before .before .before .before .before .before .before .before .before .before .before .before .before .before .same6 .result) (c .before .before .before .before .before .before .before .before .before .before .before .before .before .before .before .before .before .before .before .before .before .if6 .left) (c .before .before .before .before .before .before .before .before .before .before .before .before .before .before .before .before .before .before .before .before .before .before .same6 .ensures .1))
-    (differ _ _ (c .before .before .before .before .before .before .before .before .before .before .before .before .before .before .before .before .before .before .before .same7 .result) (c .before .before .before .before .before .before .before .before .before .before .before .before .before .before .before .before .before .before .if7 .left) (c .before .before .before .before .before .before .before .before .before .before .before .before .before .before .before .before .before .before .before .same7 .ensures .1))
-    (differ _ _ (c .before .before .before .before .before .before .before .before .before .before .before .before .before .before .before .before .same8 .result) (c .before .before .before .before .before .before .before .before .before .before .before .before .before .before .before .if8 .left) (c .before .before .before .before .before .before .before .before .before .before .before .before .before .before .before .before .same8 .ensures .1))
-    (differ _ _ (c .before .before .before .before .before .before .before .before .before .before .before .before .before .same9 .result) (c .before .before .before .before .before .before .before .before .before .before .before .before .if9 .left) (c .before .before .before .before .before .before .before .before .before .before .before .before .before .same9 .ensures .1))
-    (differ _ _ (c .before .before .before .before .before .before .before .before .before .before .same10 .result) (c .before .before .before .before .before .before .before .before .before .if10 .left) (c .before .before .before .before .before .before .before .before .before .before .same10 .ensures .1))
-    (differ _ _ (c .before .before .before .before .before .before .before .same11 .result) (c .before .before .before .before .before .before .if11 .left) (c .before .before .before .before .before .before .before .same11 .ensures .1))
-    (differ _ _ (c .before .before .before .before .same12 .result) (c .before .before .before .if12 .left) (c .before .before .before .before .same12 .ensures .1))
-    (differ _ _ (c .before .same13 .result) (c .if13 .left) (c .before .same13 .ensures .1))
+    (differ _ _ (t1 .before .same .result) (t1 .if1 .left) (t1 .before .same .ensures .1))
+    (differ _ _ (t2 .before .same2 .result) (t2 .if2 .left) (t2 .before .same2 .ensures .1))
+    (differ _ _ (t3 .before .same3 .result) (t3 .if3 .left) (t3 .before .same3 .ensures .1))
+    (differ _ _ (t4 .before .same4 .result) (t4 .if4 .left) (t4 .before .same4 .ensures .1))
+    (differ _ _ (t5 .before .same5 .result) (t5 .if5 .left) (t5 .before .same5 .ensures .1))
+    (differ _ _ (t6 .before .same6 .result) (t6 .if6 .left) (t6 .before .same6 .ensures .1))
+    (differ _ _ (t7 .before .same7 .result) (t7 .if7 .left) (t7 .before .same7 .ensures .1))
+    (differ _ _ (t8 .before .same8 .result) (t8 .if8 .left) (t8 .before .same8 .ensures .1))
+    (differ _ _ (t9 .before .same9 .result) (t9 .if9 .left) (t9 .before .same9 .ensures .1))
+    (differ _ _ (t10 .before .same10 .result) (t10 .if10 .left) (t10 .before .same10 .ensures .1))
+    (differ _ _ (t11 .before .same11 .result) (t11 .if11 .left) (t11 .before .same11 .ensures .1))
+    (differ _ _ (t12 .before .same12 .result) (t12 .if12 .left) (t12 .before .same12 .ensures .1))
+    (differ _ _ (t13 .before .same13 .result) (t13 .if13 .left) (t13 .before .same13 .ensures .1))
 
 pub of-spec : {M : Type 1} → statement M
 of-spec =
     tie.close
     (tie.spec
-    slice-aggregate-same
-    same-requires
-    returns
-    slice-aggregate-same-2
-    same-requires-2
-    returns-2
-    slice-aggregate-same-3
-    same-requires-3
-    returns-3
-    slice-aggregate-same-4
-    same-requires-4
-    returns-4
-    slice-aggregate-same-5
-    same-requires-5
-    returns-5
-    slice-aggregate-same-6
-    same-requires-6
-    returns-6
-    slice-aggregate-same-7
-    same-requires-7
-    returns-7
-    slice-aggregate-same-8
-    same-requires-8
-    returns-8
-    slice-aggregate-same-9
-    same-requires-9
-    returns-9
-    slice-aggregate-same-10
-    same-requires-10
-    returns-10
-    slice-aggregate-same-11
-    same-requires-11
-    returns-11
-    slice-aggregate-same-12
-    same-requires-12
-    returns-12
-    slice-aggregate-same-13
-    same-requires-13
-    returns-13
-    returns-14)
+    (λ c. search needs)
+    (λ c κs. search needs)
+    compare
+    (λ c. search needs)
+    (λ c κs. search needs)
+    possible
+    (λ c. search needs)
+    (λ c κs. search needs)
+    protected
+    (λ c. search needs)
+    (λ c κs. search needs)
+    store
+    (λ c. search needs)
+    (λ c κs. search needs)
+    register-read
+    (λ c. search needs)
+    (λ c κs. search needs)
+    flash-read
+    (λ c. search needs)
+    (λ c κs. search needs)
+    lower-bank
+    (λ c. search needs)
+    (λ c κs. search needs)
+    page
+    (λ c. search needs)
+    (λ c κs. search needs)
+    step
+    (λ c. search needs)
+    (λ c κs. search needs)
+    reset
+    (λ c. search needs)
+    (λ c κs. search needs)
+    start-up
+    (λ c. search needs)
+    (λ c κs. search needs)
+    update-start
+    (λ c. search needs)
+    (λ c κs. search needs)
+    turn
+    unknown)
