@@ -21,10 +21,10 @@ fn play_program() {
 
 #[test]
 fn bundle_of_scripts() {
-    let bytes = stored("script_tests", "stdin");
+    let bytes = stored("conformance_scripts", "stdin");
     let scripts = unbundled(&bytes);
     let printed: String = scripts.iter().map(|s| play(s) + "-\n").collect();
-    assert_eq!(printed.as_bytes(), stored("script_tests", "stdout"));
+    assert_eq!(printed.as_bytes(), stored("conformance_scripts", "stdout"));
 
     let vectors = Path::new(env!("CARGO_MANIFEST_DIR")).join("vectors/scripts");
     for entry in std::fs::read_dir(vectors).unwrap() {
@@ -67,5 +67,5 @@ fn conformance_inputs() {
 
 #[test]
 fn cuts_program() {
-    assert_eq!(cuts().as_bytes(), stored("cuts", "stdout"));
+    assert_eq!(cuts().as_bytes(), stored("conformance_cuts", "stdout"));
 }

@@ -2,17 +2,17 @@
 // What asks for a bank whose indices are words is no call of the device: its callers show it.
 ghost use Prim.Native.Nat.{_≤_, _<_};
 ghost use lib.ListN.{length};
+use bank_parts::lower_bank;
+use bank_parts::lower_bank_decline;
+use bank_parts::page;
+use bank_parts::page_decline;
 use conformance_io::answer::Answer;
 use conformance_io::differences::same_words;
 use conformance_io::records::device_of;
 use conformance_io::records::geometry_of;
 use device::registers::Nvmcon;
 use geometry::banks::page_words;
-use parts::parts::lower_bank;
-use parts::parts::lower_bank_decline;
-use parts::parts::page;
-use parts::parts::page_decline;
-use reads::read::flash_read;
+use reads::flash_read;
 use words::word::has;
 
 pub fn flash_read_answer(front: [u32; 20], one: &[u32], two: &[u32], address: u32) -> Answer

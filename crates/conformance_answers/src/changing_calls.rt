@@ -9,8 +9,8 @@ use conformance_io::records::geometry_of;
 use conformance_io::records::with_device;
 use device::answer::Answer as StepAnswer;
 use flash::step::step;
-use resets::reset::Restarted;
-use resets::reset::reset;
+use resets::Restarted;
+use resets::reset;
 
 // What a step gives but for the changes.
 fn stepped(given: StepAnswer) -> Answer

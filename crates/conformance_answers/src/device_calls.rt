@@ -2,18 +2,18 @@
 ghost use Prim.Native.Nat.{_≤_};
 ghost use lib.Dec.{eqb};
 ghost use Rattle.words.specs.Word.{pick};
-use access::store::register_read;
-use access::store::store;
+use common_declines::possible::is_possible;
 use conformance_io::answer::Answer;
 use conformance_io::records::device_of;
 use conformance_io::records::geometry_of;
 use conformance_io::records::with_device;
 use geometry::banks::Geometry;
 use geometry::banks::in_range;
-use opening::possible::is_possible;
-use protection::protection::is_protected;
-use sequence::sequence::bfswap;
-use start_up::start_up::start_up;
+use protection::is_protected;
+use register_access::register_read;
+use register_access::store;
+use sequence::bfswap;
+use start_up::start_up;
 
 pub fn compare_answer(words: [u32; 20]) -> Answer
     ensures { λ r. ⌜ r .count ≤ 20 ⌝ }

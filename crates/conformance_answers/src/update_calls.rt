@@ -12,8 +12,8 @@ use conformance_io::records::with_device;
 use device::record::Device;
 use geometry::banks::Geometry;
 use update::turn::Turned;
-use update_start::start::start;
-use update_turn::turn::turn;
+use update_start::start;
+use update_turn::turn;
 
 pub fn update_start_answer(front: [u32; 20], one: &[u32], two: &[u32], image: &[u32]) -> Answer
     ensures { λ r. ⌜ r .count ≤ 20 ⌝ }

@@ -17,8 +17,8 @@ use conformance_answers::device_calls::start_up_answer;
 use conformance_answers::device_calls::store_answer;
 use conformance_answers::update_calls::turn_answer;
 use conformance_answers::update_calls::update_start_answer;
-use conformance_cases::cases::Case;
-use conformance_cases::cases::take_case;
+use conformance_cases::Case;
+use conformance_cases::take_case;
 use conformance_io::answer::Answer;
 
 // What a call that lends no list gives for its numbers.

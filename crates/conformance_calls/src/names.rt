@@ -1,7 +1,7 @@
 // The calls by their names, and what each takes.
 ghost use Prim.Native.Nat.{_≤_};
 ghost use Rattle.conformance_calls.specs.Names.{Named};
-use conformance_cases::cases::Shape;
+use conformance_cases::Shape;
 use conformance_lists::bytes::same;
 
 pub enum Call {

@@ -4,7 +4,7 @@ use mathlib.Core.Path.{_≡_}
 use mathlib.Core.List.{List}
 use lib.ListN.{length, take}
 use Rattle.conformance_lists.specs.Lists.{Held}
-use Rattle.conformance_cases.specs.declared.cases.Case.{Case}
+use Rattle.conformance_cases.specs.declared.Case.{Case}
 
 -- two lists stand in the spare buffer one after the other, up to `middle` and from there up to `end`
 pub record Parted (spare : List ℕ) (middle end : ℕ) : Type 0 where

@@ -17,11 +17,11 @@ use Rattle.device.specs.declared.record.Device.{Device}
 use Rattle.device.specs.declared.answer.Answer.{Answer}
 use Rattle.device.specs.Registers.{WRERR, LVDERR}
 use Rattle.device.specs.Record.{running, opOf}
-use Rattle.operation.specs.Operation.{beginsOf, lengthOf}
-use Rattle.opening.specs.Possible.{runningOf, possibleOf}
-use Rattle.opening.specs.Opening.{openingOf}
-use Rattle.opening.proofs.PossibleLaws.{possible}
-use Rattle.opening.proofs.OpeningLaws.{Ready, ready}
+use Rattle.nvmop.specs.Operation.{beginsOf, lengthOf}
+use Rattle.common_declines.specs.Possible.{runningOf, possibleOf}
+use Rattle.common_declines.specs.CommonDecline.{commonDeclineOf}
+use Rattle.common_declines.proofs.PossibleLaws.{possible}
+use Rattle.common_declines.proofs.CommonDeclineLaws.{Ready, ready}
 use Rattle.flash.specs.Effect.{Runs}
 use Rattle.flash.specs.Step.{stepDeclineOf, advanceOf}
 
@@ -48,7 +48,7 @@ module _ (g : Geometry) (d : Device) where
       → Ready g d (one ∷ two ∷ []) sram × Runs g d × (running d ≡ true)
   unfolding stepDeclineOf
   step-ready one two sram h =
-      let s = neither (openingOf g d (one ∷ two ∷ []) sram) _ h in
+      let s = neither (commonDeclineOf g d (one ∷ two ∷ []) sram) _ h in
       let r = ready g d (one ∷ two ∷ []) sram (s .0) in
       let on = held (running d) Decline.Accepted Decline.Idle refl (s .1) .0 in
       (r, runs (r .lent .range) (r .possible) on, on)

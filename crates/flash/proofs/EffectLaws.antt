@@ -13,7 +13,7 @@ use Rattle.words.specs.Quad.{quadAt, isBlankOf}
 use Rattle.words.proofs.PickLaws.{pick-both, and-both}
 use Rattle.words.proofs.BitLaws.{true-not-false}
 use Rattle.geometry.specs.declared.banks.Geometry.{Geometry}
-use Rattle.map.specs.declared.windows.Location.{Location}
+use Rattle.map.specs.declared.Location.{Location}
 use Rattle.geometry.specs.Banks.{InRange, bankWordsOf}
 use Rattle.map.specs.Windows.{windowBytesOf, located, quadIndexOf, inSecondOf}
 use Rattle.geometry.proofs.SizeLaws.{Unit, quad-unit, row-unit, page-unit}
@@ -21,7 +21,7 @@ use Rattle.map.proofs.WindowLaws.{unit-room, quad-in-bank}
 use Rattle.device.specs.declared.record.Device.{Device}
 use Rattle.device.specs.Record.{opOf, bfswap, pfswap}
 use Rattle.protection.specs.Protection.{pwpOf}
-use Rattle.operation.specs.Operation.{unitOf, targetOf, pageProtectedOf, targetBeginsOf, beginsAtOf, lengthOf}
+use Rattle.nvmop.specs.Operation.{unitOf, targetOf, pageProtectedOf, targetBeginsOf, beginsAtOf, lengthOf}
 use Rattle.flash.specs.declared.effect.Effect.{Effect}
 use Rattle.device.specs.State.{State, bankOf}
 use Rattle.flash.specs.Write.{Fits}

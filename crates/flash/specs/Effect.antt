@@ -8,14 +8,14 @@ use lib.ListN.{length}
 use Rattle.words.specs.Word.{pick}
 use Rattle.words.specs.Quad.{quadAt, quadFrom, isBlankOf, blankQuad}
 use Rattle.geometry.specs.declared.banks.Geometry.{Geometry}
-use Rattle.map.specs.declared.windows.Location.{Location}
+use Rattle.map.specs.declared.Location.{Location}
 use Rattle.geometry.specs.Banks.{InRange}
 use Rattle.map.specs.Windows.{located, pageOf, quadIndexOf, inSecondOf}
 use Rattle.device.specs.declared.record.Device.{Device}
 use Rattle.device.specs.State.{State, bankOf}
 use Rattle.device.specs.Record.{opOf, bfswap, pfswap}
 use Rattle.protection.specs.Protection.{bootProtectedOf}
-use Rattle.operation.specs.Operation.{targetOf, beginsOf, lengthOf}
+use Rattle.nvmop.specs.Operation.{targetOf, beginsOf, lengthOf}
 use Rattle.flash.specs.declared.effect.Effect.{Effect}
 
 -- an operation that runs on a possible device: what the functions below ask for

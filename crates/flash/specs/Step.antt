@@ -14,15 +14,15 @@ use Rattle.device.specs.State.{State, After, after}
 use Rattle.device.specs.Registers.{WR, WRERR}
 use Rattle.device.specs.Builders.{withCon}
 use Rattle.device.specs.Record.{running, opOf}
-use Rattle.operation.specs.Operation.{lengthOf}
-use Rattle.opening.specs.Opening.{openingOf}
+use Rattle.nvmop.specs.Operation.{lengthOf}
+use Rattle.common_declines.specs.CommonDecline.{commonDeclineOf}
 use Rattle.flash.specs.declared.step.StepEffect.{StepEffect}
 use Rattle.flash.specs.Write.{writtenOf}
 use Rattle.flash.specs.Effect.{effectOf}
 
 -- declines 1, 2, 3 and 6
 unfoldable pub stepDeclineOf : Geometry → Device → ℕ → ℕ → ℕ → Decline
-stepDeclineOf g d one two sram = firstOf (openingOf g d (one ∷ two ∷ []) sram) (pick (running d) Decline.Accepted Decline.Idle)
+stepDeclineOf g d one two sram = firstOf (commonDeclineOf g d (one ∷ two ∷ []) sram) (pick (running d) Decline.Accepted Decline.Idle)
 
 abbrev pub advanced : Device → Bool → Answer
 advanced d event = record { decline = Decline.Accepted; device = d; event = event }

@@ -9,15 +9,15 @@ ghost use Rattle.flash.specs.Step.{stepDeclineOf, advanceOf, stepEffectO
 use crate::effect::next_effect;
 use crate::write::Write;
 use crate::write::apply;
+use common_declines::common_decline::common_decline;
 use device::answer::Answer;
 use device::builders::with_con;
 use device::record::Device;
 use device::registers::Nvmcon;
 use geometry::banks::Geometry;
 use geometry::lent::Lent;
-use opening::opening::opening;
-use operation::operation::length;
-use operation::operation::op;
+use nvmop::length;
+use nvmop::op;
 use words::decline::Decline;
 use words::word::clear;
 use words::word::has;
@@ -31,7 +31,7 @@ pub struct StepEffect {
 fn step_decline(g: Geometry, d: Device, one: usize, two: usize, sram: usize) -> Decline
     ensures { λ r. ⌜ r ≡ stepDeclineOf g d one two sram ⌝ }
 {
-    let decline = opening(g, d, Lent::Banks(one, two), sram);
+    let decline = common_decline(g, d, Lent::Banks(one, two), sram);
     if !decline.is_accepted() {
         return decline;
     }

@@ -6,8 +6,8 @@ use Prim.Native.Nat.{ℕ, _+_, _*_, _/_, _%_, _<_}
 use native.Mathlib.Omega.{arith}
 use lib.Arith.{digits-div, digits-mod, digits-lt}
 use lib.ListN.{length, getD, set}
-use Rattle.interleave.specs.Blocks.{WordsBack}
-use Rattle.interleave.proofs.RoundLaws.{Moved, moved-further, Apart, moved-next}
+use Rattle.lanes_interleave.specs.Blocks.{WordsBack}
+use Rattle.lanes_interleave.proofs.RoundLaws.{Moved, moved-further, Apart, moved-next}
 use Rattle.lanes.specs.Lanes.{wordsIn, lanesOutOf, lanesBackOf}
 use Rattle.lanes.proofs.LaneLaws.{inWords, inLanes, out-length, out-at, back-length, back-at, by-words, by-lanes}
 

@@ -7,7 +7,7 @@ use Rattle.device.specs.declared.record.Device.{Device}
 use Rattle.device.specs.Registers.{WR, WREN}
 use Rattle.device.specs.Builders.{withCon}
 use Rattle.device.specs.Record.{isOpen}
-use Rattle.fields.specs.Fields.{conTakesOf}
+use Rattle.register_fields.specs.Fields.{conTakesOf}
 use Rattle.launch.specs.declared.launch.Launched.{Launched}
 use Rattle.launch.specs.Launch.{launched, launchOf}
 

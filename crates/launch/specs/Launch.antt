@@ -9,7 +9,7 @@ use Rattle.device.specs.declared.record.Device.{Device}
 use Rattle.launch.specs.declared.launch.Launched.{Launched}
 use Rattle.device.specs.Registers.{WR, WRERR, LVDERR}
 use Rattle.device.specs.Record.{opOf}
-use Rattle.operation.specs.Operation.{beginsOf}
+use Rattle.nvmop.specs.Operation.{beginsOf}
 
 abbrev pub launched : ℕ → Bool → Launched
 launched nvmcon event = record { nvmcon = nvmcon; event = event }

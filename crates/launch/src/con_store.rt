@@ -7,8 +7,8 @@ use crate::launch::Launched;
 use crate::launch::launch;
 use device::record::Device;
 use device::registers::Nvmcon;
-use fields::fields::con_takes;
 use geometry::banks::Geometry;
+use register_fields::con_takes;
 use words::word::has;
 use words::word::merge;
 

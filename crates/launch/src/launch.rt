@@ -6,8 +6,8 @@ ghost use Rattle.launch.specs.Launch.{launchOf};
 use device::record::Device;
 use device::registers::Nvmcon;
 use geometry::banks::Geometry;
-use operation::operation::begins;
-use operation::operation::op;
+use nvmop::begins;
+use nvmop::op;
 use words::word::clear;
 use words::word::has;
 

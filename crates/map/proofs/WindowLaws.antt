@@ -11,7 +11,7 @@ use borrow.Author.Tests.{le-leb, lt-leb, le-ltb, lt-ltb, leb-true, ltb-true}
 use Rattle.words.specs.Word.{pick}
 use Rattle.words.proofs.PickLaws.{and-both}
 use Rattle.geometry.specs.declared.banks.Geometry.{Geometry}
-use Rattle.map.specs.declared.windows.Location.{Location}
+use Rattle.map.specs.declared.Location.{Location}
 use Rattle.geometry.specs.Banks.{InRange, pageBytesOf, bootWordsOf, bootQuadsOf, bankWordsOf, roundDownOf}
 use Rattle.map.specs.Windows.{upperBoot, lowerProgram, windowStartOf, windowBytesOf, located, nowhere, inWindowOf, orElse, locateOf, pageOf, wordIndexOf, quadIndexOf}
 use Rattle.geometry.proofs.SizeLaws.{Unit, page-pos, unit-in-page}

@@ -4,7 +4,7 @@ use mathlib.Core.Bool.{Bool, true, false, not, _&&_}
 use lib.Dec.{leb, ltb}
 use Rattle.words.specs.Word.{pick}
 use Rattle.geometry.specs.declared.banks.Geometry.{Geometry}
-use Rattle.map.specs.declared.windows.Location.{Location}
+use Rattle.map.specs.declared.Location.{Location}
 use Rattle.geometry.specs.Banks.{bootBytesOf, bootWordsOf, bootQuadsOf, programBytesOf, pageBytesOf}
 
 -- "lower boot alias 0x1FC00000, upper boot alias 0x1FC20000"

@@ -1,13 +1,13 @@
 // Plays the service script of standard input after power-on, and prints a line for each record.
 ghost use Prim.Native.Nat.{_≤_};
 ghost use lib.ListN.{length};
-ghost use Rattle.play_program.specs.Program.{outputRoom};
+ghost use Rattle.script_program.specs.Program.{outputRoom};
 use libc::STDERR_FILENO;
 use libc::STDIN_FILENO;
 use libc::STDOUT_FILENO;
-use play_program::program::LONGEST;
-use play_program::program::OUTPUT;
-use play_program::program::print;
+use script_program::LONGEST;
+use script_program::OUTPUT;
+use script_program::print;
 
 // One byte more than the longest script: where all are read, the script is too long.
 const INPUT: usize = LONGEST + 1;

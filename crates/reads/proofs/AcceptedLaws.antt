@@ -11,8 +11,8 @@ use Rattle.words.specs.Decline.{acceptedOf}
 use Rattle.map.specs.Windows.{locateOf}
 use Rattle.words.proofs.DeclineLaws.{held, neither}
 use Rattle.device.specs.declared.record.Device.{Device}
-use Rattle.opening.specs.Opening.{openingOf}
-use Rattle.opening.proofs.OpeningLaws.{Ready, ready}
+use Rattle.common_declines.specs.CommonDecline.{commonDeclineOf}
+use Rattle.common_declines.proofs.CommonDeclineLaws.{Ready, ready}
 use Rattle.reads.specs.Read.{readableOf, flashReadDeclineOf}
 
 -- a flash read lends no SRAM
@@ -20,7 +20,7 @@ pub read-ready : (g : Geometry) (d : Device) (one two address : ℕ) → accepte
     → Ready g d (one ∷ two ∷ []) 0 × (locateOf g address .inside ≡ true)
 unfolding flashReadDeclineOf
 read-ready g d one two address h =
-    let s0 = neither (openingOf g d (one ∷ two ∷ []) 0) _ h in
+    let s0 = neither (commonDeclineOf g d (one ∷ two ∷ []) 0) _ h in
     let s1 = held (readableOf g address) _ Decline.Address refl (s0 .1) in
     (ready g d (one ∷ two ∷ []) 0 (s0 .0), inside (locateOf g address .inside) (s1 .0))
   where

@@ -7,15 +7,15 @@ use lib.ListN.{length}
 use Rattle.words.specs.Word.{pick}
 use Rattle.words.specs.Quad.{wordAt}
 use Rattle.geometry.specs.declared.banks.Geometry.{Geometry}
-use Rattle.map.specs.declared.windows.Location.{Location}
+use Rattle.map.specs.declared.Location.{Location}
 use Rattle.words.specs.declared.decline.Decline.{Decline}
 use Rattle.words.specs.Decline.{acceptedOf, firstOf}
 use Rattle.map.specs.Windows.{locateOf, wordIndexOf, inSecondOf}
 use Rattle.device.specs.declared.record.Device.{Device}
 use Rattle.device.specs.State.{State, bankOf}
 use Rattle.device.specs.Record.{running, bfswap, pfswap, opOf}
-use Rattle.opening.specs.Opening.{openingOf}
-use Rattle.reads.specs.declared.read.FlashRead.{FlashRead}
+use Rattle.common_declines.specs.CommonDecline.{commonDeclineOf}
+use Rattle.reads.specs.declared.FlashRead.{FlashRead}
 use Rattle.flash.specs.Effect.{stepLocationOf}
 
 -- the bank that stands at a place, by the device's swap bits: whether it is bank 2
@@ -37,7 +37,7 @@ readableOf g address = pick (locateOf g address .inside) (eqb (address % 4) 0) f
 -- declines 1, 2, 3, 8 and 9
 unfoldable pub flashReadDeclineOf : Geometry → Device → ℕ → ℕ → ℕ → Decline
 flashReadDeclineOf g d one two address =
-    firstOf (openingOf g d (one ∷ two ∷ []) 0)
+    firstOf (commonDeclineOf g d (one ∷ two ∷ []) 0)
     (pick (readableOf g address)
     (pick (freeOf g d (secondAtOf d (locateOf g address))) Decline.Accepted Decline.Busy)
     Decline.Address)

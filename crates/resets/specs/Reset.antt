@@ -16,14 +16,14 @@ use Rattle.device.specs.Registers.{WR, WREN, LVDERR, PFSWAP, BFSWAP, NVMERS, re
 use Rattle.device.specs.Builders.{powerOn, withCon, withStored}
 use Rattle.device.specs.State.{State, state, bankOf, After, after}
 use Rattle.device.specs.Record.{running}
-use Rattle.opening.specs.Opening.{openingOf}
+use Rattle.common_declines.specs.CommonDecline.{commonDeclineOf}
 use Rattle.flash.specs.declared.write.Write.{Write}
 use Rattle.flash.specs.Write.{writtenOf}
 use Rattle.flash.specs.Effect.{effectOf}
 
 -- declines 1, 2, 3 and 7
 unfoldable pub resetDeclineOf : Geometry → Device → ℕ → ℕ → ℕ → ℕ → Decline
-resetDeclineOf g d one two sram kind = firstOf (openingOf g d (one ∷ two ∷ []) sram) (pick (ltb 2 kind) Decline.ResetKind Decline.Accepted)
+resetDeclineOf g d one two sram kind = firstOf (commonDeclineOf g d (one ∷ two ∷ []) sram) (pick (ltb 2 kind) Decline.ResetKind Decline.Accepted)
 
 -- "With WR = 1 a reset first tears the quad of the next step: the four words of the torn mask choose, bit by bit, intended (1) or old (0).
 -- A step that would abort or hit a protected page tears nothing."

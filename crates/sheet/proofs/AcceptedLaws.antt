@@ -11,8 +11,8 @@ use Rattle.words.proofs.DeclineLaws.{held, neither}
 use Rattle.geometry.specs.declared.banks.Geometry.{Geometry}
 use Rattle.geometry.specs.Banks.{InRange, bankWordsOf}
 use Rattle.device.specs.declared.record.Device.{Device}
-use Rattle.opening.specs.Opening.{openingOf}
-use Rattle.opening.proofs.OpeningLaws.{ready}
+use Rattle.common_declines.specs.CommonDecline.{commonDeclineOf}
+use Rattle.common_declines.proofs.CommonDeclineLaws.{ready}
 use Rattle.sheet.specs.Sheet.{sheetBytesOf, pageSheetDeclineOf}
 
 pub record Holds (g : Geometry) (one two buffer : ℕ) : Type 0 where
@@ -24,7 +24,7 @@ pub record Holds (g : Geometry) (one two buffer : ℕ) : Type 0 where
 pub holds : (g : Geometry) (d : Device) (one two buffer : ℕ) → acceptedOf (pageSheetDeclineOf g d one two buffer) ≡ true → Holds g one two buffer
 unfolding pageSheetDeclineOf
 holds g d one two buffer h =
-    let (opened, fits) = neither (openingOf g d (one ∷ two ∷ []) 0) _ h in
+    let (opened, fits) = neither (commonDeclineOf g d (one ∷ two ∷ []) 0) _ h in
     let lent = ready g d (one ∷ two ∷ []) 0 opened .lent in
     record {
       range = lent .range;

@@ -7,12 +7,12 @@ use Prim.Native.Nat.{ℕ, suc, _+_, _*_, _≤_, _<_}
 use native.Mathlib.Omega.{arith}
 use lib.ListN.{length}
 use lib.Seq.{sets, take-all}
-use Rattle.lines.proofs.BufferLaws.{sets-after, sets-front}
+use Rattle.text.proofs.BufferLaws.{sets-after, sets-front}
 use Rattle.geometry.specs.declared.banks.Geometry.{Geometry}
 use Rattle.geometry.specs.Banks.{InRange, pagesOf}
 use Rattle.device.specs.declared.record.Device.{Device}
-use Rattle.page_state.specs.State.{kindPagesOf, pageStateOf}
-use Rattle.page_line.specs.Line.{lineOf}
+use Rattle.sheet_page.specs.State.{kindPagesOf, pageStateOf}
+use Rattle.sheet_line.specs.Line.{lineOf}
 use Rattle.sheet.specs.Sheet.{linesOf, kindLinesOf, bankLinesOf, sheetOf, sheetBytesOf, withSheet}
 use Rattle.sheet.proofs.WidthLaws.{lines-length, kind-few, bank-bytes, sheet-bytes}
 

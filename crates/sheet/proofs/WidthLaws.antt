@@ -10,10 +10,10 @@ use Rattle.geometry.specs.declared.banks.Geometry.{Geometry}
 use Rattle.geometry.specs.Banks.{listedOf, inRangeOf, InRange, pagesOf, pageQuadsOf}
 use Rattle.geometry.proofs.SizeLaws.{in-range}
 use Rattle.device.specs.declared.record.Device.{Device}
-use Rattle.page_state.specs.State.{usedQuadsOf, kindPagesOf, pageIndexOf, pageStateOf}
-use Rattle.page_state.proofs.StateLaws.{used-at-most}
-use Rattle.page_line.specs.Line.{lineOf}
-use Rattle.page_line.proofs.WidthLaws.{page-width, quads-width, line-length}
+use Rattle.sheet_page.specs.State.{usedQuadsOf, kindPagesOf, pageIndexOf, pageStateOf}
+use Rattle.sheet_page.proofs.StateLaws.{used-at-most}
+use Rattle.sheet_line.specs.Line.{lineOf}
+use Rattle.sheet_line.proofs.WidthLaws.{page-width, quads-width, line-length}
 use Rattle.sheet.specs.Sheet.{linesOf, kindLinesOf, bankLinesOf, sheetOf}
 use Rattle.sheet.specs.Widths.{Widths}
 

@@ -10,9 +10,9 @@ use Rattle.words.specs.Decline.{acceptedOf, firstOf}
 use Rattle.geometry.specs.declared.banks.Geometry.{Geometry}
 use Rattle.geometry.specs.Banks.{pagesOf}
 use Rattle.device.specs.declared.record.Device.{Device}
-use Rattle.opening.specs.Opening.{openingOf}
-use Rattle.page_state.specs.State.{kindPagesOf, pageStateOf}
-use Rattle.page_line.specs.Line.{lineOf}
+use Rattle.common_declines.specs.CommonDecline.{commonDeclineOf}
+use Rattle.sheet_page.specs.State.{kindPagesOf, pageStateOf}
+use Rattle.sheet_line.specs.Line.{lineOf}
 
 -- "One line a page", "ascending": the first n pages of a kind of a bank
 abbrev pub linesOf : Geometry → Device → List ℕ → Bool → Bool → ℕ → List ℕ
@@ -39,7 +39,7 @@ sheetBytesOf g = 34 * pagesOf g
 -- "Turned away: 18, after 1 to 3, the buffer is shorter than the sheet.", by the lengths of bank 1, bank 2 and the buffer
 unfoldable pub pageSheetDeclineOf : Geometry → Device → ℕ → ℕ → ℕ → Decline
 pageSheetDeclineOf g d one two buffer =
-    firstOf (openingOf g d (one ∷ two ∷ []) 0) (pick (leb (sheetBytesOf g) buffer) Decline.Accepted Decline.SheetBuffer)
+    firstOf (commonDeclineOf g d (one ∷ two ∷ []) 0) (pick (leb (sheetBytesOf g) buffer) Decline.Accepted Decline.SheetBuffer)
 
 -- everything after the call: the answer, the bytes of the sheet, the buffer
 pub record Given : Type 0 where

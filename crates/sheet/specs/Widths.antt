@@ -5,12 +5,12 @@ use mathlib.Core.Path.{_≡_}
 use mathlib.Core.Bool.{Bool, true}
 use mathlib.Core.List.{List}
 use lib.ListN.{length}
-use Rattle.lines.specs.Digits.{widthOf}
+use Rattle.text.specs.Digits.{widthOf}
 use Rattle.geometry.specs.declared.banks.Geometry.{Geometry}
 use Rattle.geometry.specs.Banks.{listedOf, inRangeOf, pagesOf}
 use Rattle.device.specs.declared.record.Device.{Device}
-use Rattle.page_state.specs.State.{usedQuadsOf, pageStateOf}
-use Rattle.page_line.specs.Line.{lineOf}
+use Rattle.sheet_page.specs.State.{usedQuadsOf, pageStateOf}
+use Rattle.sheet_line.specs.Line.{lineOf}
 use Rattle.sheet.specs.Sheet.{sheetOf}
 
 pub record Widths : Type 0 where

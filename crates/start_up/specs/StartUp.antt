@@ -6,10 +6,10 @@ use Rattle.geometry.specs.declared.banks.Geometry.{Geometry}
 use Rattle.words.specs.declared.decline.Decline.{Decline}
 use Rattle.words.specs.Decline.{acceptedOf, firstOf}
 use Rattle.device.specs.declared.record.Device.{Device}
-use Rattle.start_up.specs.declared.start_up.StartedUp.{StartedUp}
+use Rattle.start_up.specs.declared.StartedUp.{StartedUp}
 use Rattle.device.specs.Record.{running, bfswap}
-use Rattle.opening.specs.Opening.{openingOf}
-use Rattle.access.specs.Store.{storeOf}
+use Rattle.common_declines.specs.CommonDecline.{commonDeclineOf}
+use Rattle.register_access.specs.Store.{storeOf}
 
 -- a store by its register, form and value
 pub record Access : Type 0 where
@@ -45,7 +45,7 @@ startUpStores d = swapStores d ++ access 10 2 0xC0 ∷ []
 
 -- declines 1, 3 and 5
 unfoldable pub startUpDeclineOf : Geometry → Device → Decline
-startUpDeclineOf g d = firstOf (openingOf g d [] 0) (pick (running d) Decline.Running Decline.Accepted)
+startUpDeclineOf g d = firstOf (commonDeclineOf g d [] 0) (pick (running d) Decline.Running Decline.Accepted)
 
 unfoldable pub startUpOf : Geometry → Device → StartedUp
 startUpOf g d =

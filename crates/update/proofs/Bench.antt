@@ -8,9 +8,9 @@ use Rattle.sequence.specs.Sequence.{complementOf, validOf, bfswapOf}
 use Rattle.device.specs.declared.record.Device.{Device}
 use Rattle.device.specs.Builders.{powerOn}
 use Rattle.device.specs.Record.{registerOf}
-use Rattle.opening.specs.Possible.{implementedOf, possibleOf}
-use Rattle.opening.specs.Opening.{openingOf}
-use Rattle.operation.proofs.Bench as operation-bench
+use Rattle.common_declines.specs.Possible.{implementedOf, possibleOf}
+use Rattle.common_declines.specs.CommonDecline.{commonDeclineOf}
+use Rattle.nvmop.proofs.Bench as operation-bench
 use Rattle.resets.specs.Reset.{comparedOf, resetConOf, resetDeviceOf}
 use Rattle.update.specs.Actions.{totalOf}
 use Rattle.update.specs.Start.{clashOf, sequenceAllowsOf, upperFreeOf, startDeclineOf, startOf}
@@ -25,7 +25,7 @@ unfolding complementOf validOf bfswapOf resetConOf resetDeviceOf
 bench-power-on = (λ d. refl, λ d. refl, λ d. refl, λ d. refl)
 
 pub bench : Bench
-unfolding listedOf inRangeOf lengthsFitOf lentDeclineOf complementOf validOf bfswapOf registerOf implementedOf possibleOf openingOf totalOf
+unfolding listedOf inRangeOf lengthsFitOf lentDeclineOf complementOf validOf bfswapOf registerOf implementedOf possibleOf commonDeclineOf totalOf
     clashOf sequenceAllowsOf upperFreeOf startDeclineOf startOf
 bench =
     record {

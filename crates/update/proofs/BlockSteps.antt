@@ -18,15 +18,15 @@ use Rattle.sequence.specs.Sequence.{sequenceQuadOf, sequenceIndexOf}
 use Rattle.device.specs.declared.record.Device.{Device}
 use Rattle.device.specs.Builders.{withCon}
 use Rattle.protection.specs.Protection.{pwpOf}
-use Rattle.operation.specs.Operation.{lengthOf}
+use Rattle.nvmop.specs.Operation.{lengthOf}
 use Rattle.device.specs.declared.answer.Answer.{Answer}
-use Rattle.access.specs.Store.{storeOf}
-use Rattle.access.proofs.AcceptedLaws.{AtRest}
+use Rattle.register_access.specs.Store.{storeOf}
+use Rattle.register_access.proofs.AcceptedLaws.{AtRest}
 use Rattle.start_up.specs.StartUp.{access}
 use Rattle.flash.specs.Effect.{effect, effectOf}
 use Rattle.flash.specs.Step.{advanceOf}
-use Rattle.machine.proofs.StoreEquations.{clear-wren}
-use Rattle.machine.proofs.RestLaws.{no-launch-rests}
+use Rattle.controller.proofs.StoreEquations.{clear-wren}
+use Rattle.controller.proofs.RestLaws.{no-launch-rests}
 use Rattle.update.specs.Actions.{erasedPageOf, programmedQuadOf}
 use Rattle.update.proofs.WordLaws.{Loses, erased-clash, clash-loses}
 use Rattle.update.proofs.TargetLaws.{UpperFree, erase-effect, program-effect}

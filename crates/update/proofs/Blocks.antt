@@ -18,8 +18,8 @@ use Rattle.device.specs.Builders.{withCon, withAddress, withData}
 use Rattle.device.specs.Record.{bfswap, pfswap}
 use Rattle.protection.specs.Protection.{pwpOf}
 use Rattle.start_up.specs.StartUp.{Access, storesOf}
-use Rattle.access.proofs.AcceptedLaws.{AtRest}
-use Rattle.machine.specs.Machine.{Sound}
+use Rattle.register_access.proofs.AcceptedLaws.{AtRest}
+use Rattle.controller.specs.Controller.{Sound}
 use Rattle.update.specs.declared.actions.Action.{Action}
 use Rattle.update.specs.declared.actions.Action.the-variants.{Step}
 use Rattle.update.specs.Actions.{stored, clearingStores, unprotectingStores, endStores, pageStores, quadStores, upperAddressOf}

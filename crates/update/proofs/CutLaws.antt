@@ -26,8 +26,8 @@ use Rattle.flash.specs.Write.{writtenOf}
 use Rattle.flash.specs.Effect.{effect, effectOf}
 use Rattle.resets.specs.Reset.{tornOf, resetDeviceOf, tearOf, restartOf}
 use Rattle.device.specs.State.{State, After}
-use Rattle.machine.specs.Machine.{Sound}
-use Rattle.machine.proofs.WriteLaws.{by-reset}
+use Rattle.controller.specs.Controller.{Sound}
+use Rattle.controller.proofs.WriteLaws.{by-reset}
 use Rattle.update.specs.Actions.{programmedQuadOf, bankQuadsOf}
 use Rattle.update.specs.Start.{clashOf}
 use Rattle.update.specs.PowerFail.{Words, Cut, resetBy}

@@ -12,10 +12,10 @@ use Rattle.words.proofs.PickLaws.{pick-both}
 use Rattle.geometry.specs.declared.banks.Geometry.{Geometry}
 use Rattle.geometry.specs.Banks.{inRangeOf, InRange, pageQuadsOf}
 use Rattle.device.specs.Record.{running}
-use Rattle.opening.proofs.OpeningLaws.{opens}
-use Rattle.access.specs.Store.{hasFormOf}
+use Rattle.common_declines.proofs.CommonDeclineLaws.{opens}
+use Rattle.register_access.specs.Store.{hasFormOf}
 use Rattle.device.specs.State.{State}
-use Rattle.machine.specs.Machine.{Sound}
+use Rattle.controller.specs.Controller.{Sound}
 use Rattle.flash.specs.Step.{stepDeclineOf, stepEffectOf, steppedOf, stepOf}
 use Rattle.update.specs.declared.actions.Action.{Action}
 use Rattle.update.specs.declared.actions.Action.the-variants.{Step}

@@ -22,14 +22,14 @@ use Rattle.device.specs.Registers.{WR, WREN, WRERR, LVDERR, PFSWAP, BFSWAP, NVM
 use Rattle.device.specs.Builders.{withCon, withAddress, withBwp, withData}
 use Rattle.device.specs.Record.{bfswap, pfswap, isOpen}
 use Rattle.protection.specs.Protection.{pwpOf}
-use Rattle.operation.specs.Operation.{beginsAtOf}
-use Rattle.opening.proofs.PossibleLaws.{possible}
-use Rattle.access.specs.Store.{hasFormOf, accepted, storeOf}
+use Rattle.nvmop.specs.Operation.{beginsAtOf}
+use Rattle.common_declines.proofs.PossibleLaws.{possible}
+use Rattle.register_access.specs.Store.{hasFormOf, accepted, storeOf}
 use Rattle.start_up.specs.StartUp.{access, storesOf, keyStores}
-use Rattle.access.proofs.AcceptedLaws.{AtRest}
-use Rattle.machine.proofs.StoreEquations.{launch-clears, launch-begins, address-store, data-store, clear-wren, set-wren, plain-op, launch-store, upper-store, keys-open, store-accepted}
-use Rattle.machine.proofs.StoreLaws.{store-possible}
-use Rattle.machine.proofs.RestLaws.{NoLaunch, NoLaunches, no-launch-rests, stores-rest}
+use Rattle.register_access.proofs.AcceptedLaws.{AtRest}
+use Rattle.controller.proofs.StoreEquations.{launch-clears, launch-begins, address-store, data-store, clear-wren, set-wren, plain-op, launch-store, upper-store, keys-open, store-accepted}
+use Rattle.controller.proofs.StoreLaws.{store-possible}
+use Rattle.controller.proofs.RestLaws.{NoLaunch, NoLaunches, no-launch-rests, stores-rest}
 use Rattle.update.specs.Actions.{launchStores, clearingStores, unprotectingStores, pageStores, quadStores, upperAddressOf, bankQuadsOf}
 use Rattle.update.proofs.TargetLaws.{UpperFree, address-word, page-begins, quad-begins}
 

@@ -21,17 +21,17 @@ use Rattle.geometry.specs.Banks.{InRange, pagesOf, pageQuadsOf, bankWordsOf}
 use Rattle.geometry.proofs.SizeLaws.{in-range}
 use Rattle.device.specs.declared.record.Device.{Device}
 use Rattle.device.specs.Record.{running, bfswap}
-use Rattle.opening.specs.Opening.{openingOf}
-use Rattle.opening.proofs.OpeningLaws.{opens}
-use Rattle.access.specs.Store.{hasFormOf, storeOf}
-use Rattle.access.proofs.AcceptedLaws.{AtRest}
+use Rattle.common_declines.specs.CommonDecline.{commonDeclineOf}
+use Rattle.common_declines.proofs.CommonDeclineLaws.{opens}
+use Rattle.register_access.specs.Store.{hasFormOf, storeOf}
+use Rattle.register_access.proofs.AcceptedLaws.{AtRest}
 use Rattle.start_up.specs.StartUp.{Access, access, storesOf}
 use Rattle.flash.specs.Effect.{effect, effectOf}
 use Rattle.flash.specs.Step.{stepDeclineOf, advanceOf, stepOf}
-use Rattle.machine.specs.Machine.{Operation, Sound}
-use Rattle.machine.proofs.StoreEquations.{store-accepted}
-use Rattle.machine.proofs.StoreLaws.{store-possible}
-use Rattle.machine.proofs.MachineLaws.{run-sound}
+use Rattle.controller.specs.Controller.{Operation, Sound}
+use Rattle.controller.proofs.StoreEquations.{store-accepted}
+use Rattle.controller.proofs.StoreLaws.{store-possible}
+use Rattle.controller.proofs.RunLaws.{run-sound}
 use Rattle.update.specs.declared.actions.Action.{Action}
 use Rattle.update.specs.declared.actions.Action.the-variants.{Step}
 use Rattle.update.specs.Actions.{erasedPageOf, bankQuadsOf, totalOf, pageActions, programmingFrom, actionAtOf}
@@ -181,7 +181,7 @@ module _ (u : Fixed) where
           phase = phase;
         }
       where
-        opened : openingOf g d (length (pick b new old) ∷ length (pick b old new) ∷ []) (length sram) ≡ Decline.Accepted
+        opened : commonDeclineOf g d (length (pick b new old) ∷ length (pick b old new) ∷ []) (length sram) ≡ Decline.Accepted
         opened = opens g d _ (length sram) listed (sound .first, (sound .other, tt)) short (sound .possible)
 
         leaves : stepOf g (placed b d old new) sram .state ≡ placed b (advanceOf g d false .device) old (putQuad new j words)

@@ -17,7 +17,7 @@ use Rattle.flash.specs.Effect.{effect}
 use Rattle.flash.specs.Write.{writtenOf}
 use Rattle.resets.specs.Reset.{comparedOf}
 use Rattle.device.specs.State.{State, bankOf, state}
-use Rattle.machine.specs.Machine.{Sound}
+use Rattle.controller.specs.Controller.{Sound}
 use Rattle.update.specs.Start.{lowerWordOf, otherWordOf}
 use Rattle.update.specs.PowerFail.{SameBanks}
 use Rattle.update.proofs.WordLaws.{chosenOf}

@@ -17,14 +17,14 @@ use Rattle.geometry.proofs.SizeLaws.{in-range}
 use Rattle.sequence.specs.Sequence.{sequenceIndexOf, nextSequenceOf}
 use Rattle.device.specs.declared.record.Device.{Device}
 use Rattle.device.specs.Record.{running, bfswap, pfswap}
-use Rattle.opening.specs.Possible.{possibleOf}
-use Rattle.opening.proofs.OpeningLaws.{opens}
+use Rattle.common_declines.specs.Possible.{possibleOf}
+use Rattle.common_declines.proofs.CommonDeclineLaws.{opens}
 use Rattle.start_up.specs.StartUp.{startUpOf}
 use Rattle.resets.specs.Reset.{resetDeclineOf, resetDeviceOf, resetOf}
 use Rattle.device.specs.State.{State, bankOf, After}
-use Rattle.machine.specs.Machine.{Operation, Sound}
-use Rattle.machine.proofs.Machine.{controller}
-use Rattle.machine.proofs.WriteLaws.{by-reset}
+use Rattle.controller.specs.Controller.{Operation, Sound}
+use Rattle.controller.proofs.Controller.{controller}
+use Rattle.controller.proofs.WriteLaws.{by-reset}
 use Rattle.update.specs.Actions.{totalOf}
 use Rattle.update.specs.PowerFail.{Position, at, turnsOf, afterTurns, placeAfter, Cut, resetBy, startedUp, restarted, Restarts, old}
 use Rattle.update.specs.PowerFail.{Lower, Runs, newBankOf, SameBanks, OldKept, Words, Update, Claims, PowerFail}

@@ -22,21 +22,21 @@ use Rattle.device.specs.declared.record.Device.{Device}
 use Rattle.device.specs.Registers.{WR, WREN, LVDERR, PFSWAP, BFSWAP, NVMOP, UBWPULOCK, NVMERS, SWAPLOCK}
 use Rattle.device.specs.Builders.{withCon}
 use Rattle.device.specs.Record.{registerOf, running, bfswap, pfswap, opOf, isOpen}
-use Rattle.operation.specs.Operation.{lengthOf}
+use Rattle.nvmop.specs.Operation.{lengthOf}
 use Rattle.protection.specs.Protection.{pwpOf}
-use Rattle.opening.specs.Possible.{possibleOf}
+use Rattle.common_declines.specs.Possible.{possibleOf}
 use Rattle.device.specs.declared.answer.Answer.{Answer}
-use Rattle.fields.specs.Fields.{conTakesOf}
-use Rattle.access.specs.Store.{hasFormOf, storeDeclineOf, appliedOf, accepted, storeAcceptedOf, storeOf}
+use Rattle.register_fields.specs.Fields.{conTakesOf}
+use Rattle.register_access.specs.Store.{hasFormOf, storeDeclineOf, appliedOf, accepted, storeAcceptedOf, storeOf}
 use Rattle.launch.specs.ConStore.{launchesOf, conStoreOf}
 use Rattle.start_up.specs.StartUp.{Access, access, storesOf, keyStores, startUpStores, startUpDeclineOf, startUpOf}
-use Rattle.access.proofs.AcceptedLaws.{AtRest, rest-opens}
+use Rattle.register_access.proofs.AcceptedLaws.{AtRest, rest-opens}
 use Rattle.start_up.proofs.StartUpLaws.{stores-append}
 use Rattle.flash.specs.Step.{advanceOf}
 use Rattle.resets.specs.Reset.{resetConOf, resetDeviceOf}
-use Rattle.machine.proofs.DeviceLaws.{reset-swap, reset-possible}
-use Rattle.machine.proofs.StoreEquations.{store-runs, key-rest, keys-open, wr-off}
-use Rattle.machine.proofs.RestLaws.{no-launch-rests}
+use Rattle.controller.proofs.DeviceLaws.{reset-swap, reset-possible}
+use Rattle.controller.proofs.StoreEquations.{store-runs, key-rest, keys-open, wr-off}
+use Rattle.controller.proofs.RestLaws.{no-launch-rests}
 
 -- ---- a reset
 -- it leaves the device at rest with BFSWAP as compared, PFSWAP, WREN and SWAPLOCK at 0, the upper alias's lock at 1 and PWP 0

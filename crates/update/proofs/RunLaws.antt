@@ -18,7 +18,7 @@ use Rattle.flash.specs.Effect.{effect, effectOf}
 use Rattle.flash.specs.Step.{advanceOf, stepEffectOf, steppedOf, stepOf}
 use Rattle.device.specs.State.{State, After}
 use Rattle.device.specs.Record.{running}
-use Rattle.machine.specs.Machine.{transitionOf, runOf, Sound}
+use Rattle.controller.specs.Controller.{transitionOf, runOf, Sound}
 use Rattle.update.specs.declared.actions.Action.{Action}
 use Rattle.update.specs.declared.actions.Action.the-variants.{Step}
 use Rattle.update.specs.Actions.{actionsOf, actionAtOf, totalOf}

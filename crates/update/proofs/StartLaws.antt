@@ -23,12 +23,12 @@ use Rattle.device.specs.declared.record.Device.{Device}
 use Rattle.device.specs.Registers.{UBWPULOCK}
 use Rattle.device.specs.Record.{running, bfswap, pfswap}
 use Rattle.protection.specs.Protection.{pwpOf}
-use Rattle.opening.specs.Opening.{openingOf}
-use Rattle.opening.proofs.OpeningLaws.{ready, opens}
+use Rattle.common_declines.specs.CommonDecline.{commonDeclineOf}
+use Rattle.common_declines.proofs.CommonDeclineLaws.{ready, opens}
 use Rattle.reads.specs.Read.{same}
 use Rattle.resets.specs.Reset.{comparedOf}
 use Rattle.device.specs.State.{State, bankOf}
-use Rattle.machine.specs.Machine.{Sound}
+use Rattle.controller.specs.Controller.{Sound}
 use Rattle.update.specs.Actions.{totalOf}
 use Rattle.update.specs.Start.{lowerWordOf, otherWordOf, clashOf, lowerValidOf, resetKeepsOf, swapsAgreeOf, otherSafeOf, sequenceAllowsOf}
 use Rattle.update.specs.Start.{nextExistsOf, upperFreeOf, startDeclineOf, startOf}
@@ -68,7 +68,7 @@ pub record Starts (g : Geometry) (s : State) (image : List ℕ) : Type 0 where
 starts : (g : Geometry) (s : State) (image : List ℕ) → acceptedOf (startOf g s image .decline) ≡ true → Starts g s image
 unfolding startOf startDeclineOf sequenceAllowsOf upperFreeOf
 starts g s image h =
-    let s0 = neither (openingOf g (s .device) (length (s .one) ∷ length (s .two) ∷ length image ∷ []) 0) _ h in
+    let s0 = neither (commonDeclineOf g (s .device) (length (s .one) ∷ length (s .two) ∷ length image ∷ []) 0) _ h in
     let opened = ready g (s .device) (length (s .one) ∷ length (s .two) ∷ length image ∷ []) 0 (s0 .0) in
     let s1 = passed (running (s .device)) Decline.Running _ refl (s0 .1) in
     let s2 = held (lowerValidOf g s && (resetKeepsOf g s && (swapsAgreeOf s && otherSafeOf g s))) _ Decline.Sequence refl (s1 .1) in
@@ -178,7 +178,7 @@ module _ (u : Fixed) (f : Device) (new : List ℕ) where
       lower-is : lowerWordOf g (placed b f old new) ≡ wordAt old (sequenceIndexOf g)
       lower-is = lower-placed b f old new g (started .boot)
 
-      opened : openingOf g f (length (pick b new old) ∷ length (pick b old new) ∷ length image ∷ []) 0 ≡ Decline.Accepted
+      opened : commonDeclineOf g f (length (pick b new old) ∷ length (pick b old new) ∷ length image ∷ []) 0 ≡ Decline.Accepted
       opened =
           let (first, other) = both-placed (λ (l : List ℕ). length l ≡ bankWordsOf g) b old new old-long long in
           opens g f (length (pick b new old) ∷ length (pick b old new) ∷ length image ∷ []) 0 listed (first, (other, (image-long, tt))) (omega arith)
@@ -207,4 +207,4 @@ pub start-range : (g : Geometry) (s : State) (words : ℕ) → acceptedOf (start
 unfolding startDeclineOf
 start-range g s words h =
     ready g (s .device) (length (s .one) ∷ length (s .two) ∷ words ∷ []) 0
-    (neither (openingOf g (s .device) (length (s .one) ∷ length (s .two) ∷ words ∷ []) 0) _ h .0) .lent .range
+    (neither (commonDeclineOf g (s .device) (length (s .one) ∷ length (s .two) ∷ words ∷ []) 0) _ h .0) .lent .range

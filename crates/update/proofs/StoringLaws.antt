@@ -18,15 +18,15 @@ use Rattle.device.specs.Registers.{WREN, NVMOP, SWAPLOCK}
 use Rattle.device.specs.Builders.{withCon}
 use Rattle.device.specs.Record.{registerOf, bfswap, isOpen}
 use Rattle.device.specs.declared.answer.Answer.{Answer}
-use Rattle.fields.specs.Fields.{wantedOf, conTakesOf}
-use Rattle.access.specs.Store.{hasFormOf, appliedOf, accepted, storeAcceptedOf, storeOf}
+use Rattle.register_fields.specs.Fields.{wantedOf, conTakesOf}
+use Rattle.register_access.specs.Store.{hasFormOf, appliedOf, accepted, storeAcceptedOf, storeOf}
 use Rattle.launch.specs.ConStore.{conStoreOf}
 use Rattle.start_up.specs.StartUp.{Access, access, storesOf}
-use Rattle.access.proofs.AcceptedLaws.{AtRest}
+use Rattle.register_access.proofs.AcceptedLaws.{AtRest}
 use Rattle.start_up.proofs.StartUpLaws.{stores-append}
-use Rattle.machine.proofs.StoreEquations.{store-runs}
-use Rattle.machine.proofs.ChangeLaws.{con-keeps}
-use Rattle.machine.proofs.RestLaws.{NoLaunch, NoLaunches, no-launch-rests, stores-rest}
+use Rattle.controller.proofs.StoreEquations.{store-runs}
+use Rattle.controller.proofs.ChangeLaws.{con-keeps}
+use Rattle.controller.proofs.RestLaws.{NoLaunch, NoLaunches, no-launch-rests, stores-rest}
 use Rattle.update.specs.declared.actions.Action.the-variants.{Store, Step}
 use Rattle.update.specs.Actions.{stored}
 

@@ -13,7 +13,7 @@ use borrow.Author.Tests.{lt-leb, le-ltb, lt-ltb, ltb-true, ltb-false}
 use Rattle.words.specs.Word.{pick, bit}
 use Rattle.words.specs.Quad.{blankQuad, quadAt}
 use Rattle.geometry.specs.declared.banks.Geometry.{Geometry}
-use Rattle.map.specs.declared.windows.Location.{Location}
+use Rattle.map.specs.declared.Location.{Location}
 use Rattle.geometry.specs.Banks.{InRange, pagesOf, pageBytesOf, pageQuadsOf, bootQuadsOf, programBytesOf, roundDownOf}
 use Rattle.map.specs.Windows.{upperBoot, upperProgram, windowStartOf, windowBytesOf, located, locateOf, pageOf, quadIndexOf, inSecondOf}
 use Rattle.geometry.proofs.SizeLaws.{Unit, quad-unit, page-unit}
@@ -22,7 +22,7 @@ use Rattle.device.specs.declared.record.Device.{Device}
 use Rattle.device.specs.State.{state}
 use Rattle.device.specs.Record.{opOf, bfswap, pfswap}
 use Rattle.protection.specs.Protection.{programProtectedOf}
-use Rattle.operation.specs.Operation.{unitOf, targetOf, targetBeginsOf, beginsAtOf}
+use Rattle.nvmop.specs.Operation.{unitOf, targetOf, targetBeginsOf, beginsAtOf}
 use Rattle.flash.specs.Effect.{stepAtOf, stepLocationOf, blockedOf, effect, effectAtOf, effectOf}
 use Rattle.update.specs.Actions.{upperAddressOf, bankQuadsOf}
 

@@ -20,16 +20,16 @@ use Rattle.geometry.specs.declared.banks.Geometry.{Geometry}
 use Rattle.geometry.specs.Banks.{inRangeOf, bankWordsOf}
 use Rattle.device.specs.declared.record.Device.{Device}
 use Rattle.device.specs.Record.{running}
-use Rattle.opening.specs.Opening.{openingOf}
-use Rattle.opening.proofs.OpeningLaws.{Ready, ready, opens}
+use Rattle.common_declines.specs.CommonDecline.{commonDeclineOf}
+use Rattle.common_declines.proofs.CommonDeclineLaws.{Ready, ready, opens}
 use Rattle.device.specs.declared.answer.Answer.{Answer}
-use Rattle.access.specs.Store.{storeAcceptedOf, storeOf}
-use Rattle.access.proofs.AcceptedLaws.{AtRest}
+use Rattle.register_access.specs.Store.{storeAcceptedOf, storeOf}
+use Rattle.register_access.proofs.AcceptedLaws.{AtRest}
 use Rattle.flash.specs.Step.{stepOf}
 use Rattle.device.specs.State.{State, After}
-use Rattle.machine.specs.Machine.{Operation, Keeps, Sound}
-use Rattle.machine.proofs.Machine.{controller}
-use Rattle.machine.proofs.StoreEquations.{store-runs}
+use Rattle.controller.specs.Controller.{Operation, Keeps, Sound}
+use Rattle.controller.proofs.Controller.{controller}
+use Rattle.controller.proofs.StoreEquations.{store-runs}
 use Rattle.update.specs.declared.actions.Action.{Action}
 use Rattle.update.specs.declared.actions.Action.the-variants.{Store, Step}
 use Rattle.update.specs.Actions.{totalOf}
@@ -65,11 +65,11 @@ module _ (g : Geometry) (s : State) (image sram : List ℕ) (place : ℕ) where
   -- what a turn tells that is not declined
   opened : Accepts → Ready g (s .device) lengths (length sram)
   unfolding turnDeclineOf
-  opened h = ready g (s .device) lengths (length sram) (neither (openingOf g (s .device) lengths (length sram)) _ h .0)
+  opened h = ready g (s .device) lengths (length sram) (neither (commonDeclineOf g (s .device) lengths (length sram)) _ h .0)
 
   acting : Accepts → eqb place (totalOf g) ≡ false → (place < totalOf g) × (acceptedOf (actionDeclineOf (s .device) (nextActionOf g s image place)) ≡ true)
   unfolding turnDeclineOf
-  acting h e = go (ltb place (totalOf g)) refl (rw e at (neither (openingOf g (s .device) lengths (length sram)) _ h .1))
+  acting h e = go (ltb place (totalOf g)) refl (rw e at (neither (commonDeclineOf g (s .device) lengths (length sram)) _ h .1))
     where
       go : (t : Bool) → ltb place (totalOf g) ≡ t
           → acceptedOf (pick t (actionDeclineOf (s .device) (nextActionOf g s image place)) Decline.Place) ≡ true
@@ -186,19 +186,19 @@ module _ (g : Geometry) (s : State) (image sram : List ℕ) (place : ℕ) where
 
   -- ---- with a short SRAM a turn is declined for its action alone, and at the total for nothing
   module _ (listed : inRangeOf g ≡ true) (sound : Sound g s) (long : length image ≡ bankWordsOf g) (short : length sram ≤ 16384) where
-    opening : openingOf g (s .device) lengths (length sram) ≡ Decline.Accepted
-    opening = opens g (s .device) lengths (length sram) listed (sound .first, (sound .other, (long, tt))) short (sound .possible)
+    common : commonDeclineOf g (s .device) lengths (length sram) ≡ Decline.Accepted
+    common = opens g (s .device) lengths (length sram) listed (sound .first, (sound .other, (long, tt))) short (sound .possible)
 
     pub turn-answers : place < totalOf g → acceptedOf (actionDeclineOf (s .device) (nextActionOf g s image place)) ≡ true
         → acceptedOf (turnOf g s image sram place .decline) ≡ true
     unfolding turnDeclineOf
-    turn-answers l ok = ap acceptedOf answers-so ∙ rw (opening, lt-ltb place (totalOf g) l) ok
+    turn-answers l ok = ap acceptedOf answers-so ∙ rw (common, lt-ltb place (totalOf g) l) ok
 
     pub total-answers : place ≡ totalOf g → acceptedOf (turnOf g s image sram place .decline) ≡ true
     unfolding turnDeclineOf
-    total-answers e = ap acceptedOf answers-so ∙ rw (opening, le-ltb place (totalOf g) (omega arith), eq-eqb place (totalOf g) e)
+    total-answers e = ap acceptedOf answers-so ∙ rw (common, le-ltb place (totalOf g) (omega arith), eq-eqb place (totalOf g) e)
 
--- ---- a turn is an operation of the machine, or none
+-- ---- a turn is an operation of the controller, or none
 keeps-same : (g : Geometry) (s : State) → Keeps g s s
 keeps-same g s = record { long = λ second. refl; page = λ second n h. refl }
 

@@ -11,7 +11,7 @@ use Rattle.geometry.specs.Banks.{pagesOf, bankWordsOf}
 use Rattle.words.specs.Decline.{numberOf, acceptedOf}
 use Rattle.sequence.specs.Sequence.{sequenceIndexOf}
 use Rattle.device.specs.Builders.{powerOn}
-use Rattle.operation.specs.Bench as operation-bench
+use Rattle.nvmop.specs.Bench as operation-bench
 use Rattle.device.specs.State.{State, state}
 use Rattle.update.specs.Actions.{totalOf}
 use Rattle.update.specs.Start.{startOf}

@@ -13,7 +13,7 @@ use Rattle.device.specs.Record.{bfswap, pfswap}
 use Rattle.start_up.specs.StartUp.{startUpOf}
 use Rattle.resets.specs.Reset.{resetOf}
 use Rattle.device.specs.State.{State, bankOf, state, After}
-use Rattle.machine.specs.Machine.{Keeps}
+use Rattle.controller.specs.Controller.{Keeps}
 use Rattle.update.specs.Actions.{totalOf}
 use Rattle.update.specs.Start.{lowerWordOf, startOf}
 use Rattle.update.specs.Turn.{turnOf, EveryTurn}

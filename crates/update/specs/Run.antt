@@ -1,6 +1,6 @@
 -- The actions of an update as operations of the controller (`turns-run` of proofs/RunLaws: turns are the run of them). Assumes nothing.
 use mathlib.Core.List.{List, [], _∷_}
-use Rattle.machine.specs.Machine.{Operation}
+use Rattle.controller.specs.Controller.{Operation}
 use Rattle.update.specs.declared.actions.Action.{Action}
 use Rattle.update.specs.declared.actions.Action.the-variants.{Store, Step}
 

@@ -16,10 +16,10 @@ use Rattle.device.specs.declared.record.Device.{Device}
 use Rattle.device.specs.Registers.{UBWPULOCK}
 use Rattle.device.specs.Record.{running, bfswap, pfswap}
 use Rattle.protection.specs.Protection.{pwpOf}
-use Rattle.opening.specs.Opening.{openingOf}
+use Rattle.common_declines.specs.CommonDecline.{commonDeclineOf}
 use Rattle.reads.specs.Read.{same}
 use Rattle.resets.specs.Reset.{comparedOf}
-use Rattle.parts.specs.Parts.{lowerOf}
+use Rattle.bank_parts.specs.Parts.{lowerOf}
 use Rattle.device.specs.State.{State}
 use Rattle.update.specs.declared.start.Started.{Started}
 use Rattle.update.specs.Actions.{totalOf}
@@ -65,7 +65,7 @@ upperFreeOf g d = hasOf (d .nvmbwp .0) UBWPULOCK && ltb (pwpOf d) (programBytesO
 -- declines 1, 2, 3, 5, 10, 11 and 12, by the length of the image
 unfoldable pub startDeclineOf : Geometry → State → ℕ → Decline
 startDeclineOf g s image =
-    firstOf (openingOf g (s .device) (length (s .one) ∷ length (s .two) ∷ image ∷ []) 0)
+    firstOf (commonDeclineOf g (s .device) (length (s .one) ∷ length (s .two) ∷ image ∷ []) 0)
     (pick (running (s .device)) Decline.Running
     (pick (sequenceAllowsOf g s)
     (pick (nextExistsOf g s)

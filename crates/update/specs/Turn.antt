@@ -11,8 +11,8 @@ use Rattle.words.specs.declared.decline.Decline.{Decline}
 use Rattle.words.specs.Decline.{acceptedOf, firstOf}
 use Rattle.device.specs.declared.record.Device.{Device}
 use Rattle.device.specs.Record.{running}
-use Rattle.opening.specs.Opening.{openingOf}
-use Rattle.access.specs.Store.{hasFormOf, storeOf}
+use Rattle.common_declines.specs.CommonDecline.{commonDeclineOf}
+use Rattle.register_access.specs.Store.{hasFormOf, storeOf}
 use Rattle.flash.specs.Step.{stepOf}
 use Rattle.device.specs.State.{State, After, answeredOf, lent}
 use denote.Ref.{RefT}
@@ -36,7 +36,7 @@ actionDeclineOf d Step = pick (running d) Decline.Accepted Decline.Idle
 -- declines 1, 2, 3, 5 or 6, and 13: "A turn whose place exceeds the total."
 unfoldable pub turnDeclineOf : Geometry → State → List ℕ → ℕ → ℕ → Decline
 turnDeclineOf g s image sram place =
-    firstOf (openingOf g (s .device) (length (s .one) ∷ length (s .two) ∷ length image ∷ []) sram)
+    firstOf (commonDeclineOf g (s .device) (length (s .one) ∷ length (s .two) ∷ length image ∷ []) sram)
     (pick (ltb place (totalOf g)) (actionDeclineOf (s .device) (nextActionOf g s image place))
     (pick (eqb place (totalOf g)) Decline.Accepted Decline.Place))
 

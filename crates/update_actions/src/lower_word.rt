@@ -7,7 +7,7 @@ ghost use Rattle.update.specs.Start.{lowerWordOf};
 use device::record::Device;
 use device::registers::Nvmcon;
 use geometry::banks::Geometry;
-use sequence::sequence::sequence_index;
+use sequence::sequence_index;
 use words::word::has;
 
 // The sequence word of the bank on the lower alias. No call of the updater: its callers judge the lengths first.

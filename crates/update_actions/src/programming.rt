@@ -10,8 +10,8 @@ use geometry::banks::Geometry;
 use geometry::banks::boot_quads;
 use geometry::banks::page_quads;
 use geometry::banks::program_bytes;
-use sequence::sequence::next_sequence;
-use sequence::sequence::sequence_quad;
+use sequence::next_sequence;
+use sequence::sequence_quad;
 use update::actions::Action;
 use words::quad::quad_at;
 

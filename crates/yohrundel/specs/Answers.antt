@@ -9,14 +9,14 @@ use Rattle.geometry.specs.declared.banks.Geometry.{Geometry}
 use Rattle.geometry.specs.Banks.{pageWordsOf}
 use Rattle.device.specs.declared.record.Device.{Device}
 use Rattle.device.specs.declared.answer.Answer.{Answer}
-use Rattle.access.specs.declared.store.RegisterRead.{RegisterRead}
-use Rattle.start_up.specs.declared.start_up.StartedUp.{StartedUp}
+use Rattle.register_access.specs.declared.RegisterRead.{RegisterRead}
+use Rattle.start_up.specs.declared.StartedUp.{StartedUp}
 use denote.Ref.{RefT}
 use Rattle.device.specs.State.{After, lent}
-use Rattle.reads.specs.declared.read.FlashRead.{FlashRead}
-use Rattle.parts.specs.Parts.{lowerBankDeclineOf, lowerOf, lowerBankOf, pageDeclineOf}
-use Rattle.script.specs.declared.play.PlayLength.{PlayLength}
-use Rattle.script.specs.Play.{Playback}
+use Rattle.reads.specs.declared.FlashRead.{FlashRead}
+use Rattle.bank_parts.specs.Parts.{lowerBankDeclineOf, lowerOf, lowerBankOf, pageDeclineOf}
+use Rattle.script_play.specs.declared.PlayLength.{PlayLength}
+use Rattle.script_play.specs.Play.{Playback}
 use Rattle.update.specs.declared.start.Started.{Started}
 use Rattle.planner.specs.declared.plan.Planned.{Planned}
 use Rattle.sheet.specs.Sheet.{Given}

@@ -5,7 +5,7 @@ ghost use Rattle.device.specs.State.{lent};
 ghost use Rattle.flash.specs.Step.{stepOf};
 ghost use Rattle.resets.specs.Reset.{resetOf};
 ghost use Rattle.reads.specs.Read.{flashReadOf};
-ghost use Rattle.parts.specs.Parts.{pagePartOf};
+ghost use Rattle.bank_parts.specs.Parts.{pagePartOf};
 ghost use Rattle.yohrundel.specs.Answers.{flashReadAnswerOf, lowerBankAnswerOf, pageAnswerOf, StepGives, ResetGives};
 use crate::answers::DeviceAnswer;
 use crate::answers::EventAnswer;
@@ -13,15 +13,15 @@ use crate::answers::FlashReadAnswer;
 use crate::answers::LowerBankAnswer;
 use crate::answers::Mask;
 use crate::answers::PageAnswer;
+use bank_parts::lower_bank_decline;
+use bank_parts::page_decline;
 use device::record::Device;
 use device::registers::Nvmcon;
 use flash::step::step;
 use geometry::banks::Geometry;
 use geometry::banks::page_words;
-use parts::parts::lower_bank_decline;
-use parts::parts::page_decline;
-use reads::read::flash_read;
-use resets::reset::reset;
+use reads::flash_read;
+use resets::reset;
 use words::word::has;
 
 #[no_mangle]

@@ -1,18 +1,18 @@
 // The exported calls on a device alone.
 ghost use mathlib.Core.Path.{_≡_};
 ghost use Rattle.device.specs.Builders.{powerOn};
-ghost use Rattle.access.specs.Store.{storeOf, registerReadOf};
+ghost use Rattle.register_access.specs.Store.{storeOf, registerReadOf};
 ghost use Rattle.start_up.specs.StartUp.{startUpOf};
 ghost use Rattle.yohrundel.specs.Answers.{storeAnswerOf, registerReadAnswerOf, startUpAnswerOf};
 use crate::answers::DeviceAnswer;
 use crate::answers::EventAnswer;
 use crate::answers::RegisterReadAnswer;
-use access::store::register_read;
-use access::store::store;
 use device::builders::power_on;
 use device::record::Device;
 use geometry::banks::Geometry;
-use start_up::start_up::start_up;
+use register_access::register_read;
+use register_access::store;
+use start_up::start_up;
 
 // The device after power-on, before any comparison of banks.
 #[no_mangle]

@@ -10,10 +10,10 @@ use crate::answers::PageSheetAnswer;
 use crate::answers::PlanAnswer;
 use device::record::Device;
 use geometry::banks::Geometry;
-use lanes::lanes::lanes_back;
-use lanes::lanes::lanes_out;
+use lanes::lanes_back;
+use lanes::lanes_out;
 use planner::plan::plan;
-use sheet::sheet::page_sheet;
+use sheet::page_sheet;
 
 // The least wait until a garage's hours hold a whole update. The slice counts numbers, two for each window: what counts windows stands
 // over it, in include/yohrundel.h and in the wrapper.

@@ -1,14 +1,14 @@
 // The exported calls that play a script.
 ghost use mathlib.Core.Path.{_≡_};
 ghost use Rattle.device.specs.State.{lent};
-ghost use Rattle.script.specs.Play.{playOf, playLengthOf};
+ghost use Rattle.script_play.specs.Play.{playOf, playLengthOf};
 ghost use Rattle.yohrundel.specs.Answers.{playLengthAnswerOf, PlayGives};
 use crate::answers::PlayAnswer;
 use crate::answers::PlayLengthAnswer;
 use device::record::Device;
 use geometry::banks::Geometry;
-use script::play::play;
-use script::play::play_length;
+use script_play::play;
+use script_play::play_length;
 
 #[no_mangle]
 pub extern "C" fn yohrundel_play(

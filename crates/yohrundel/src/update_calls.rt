@@ -8,7 +8,7 @@ ghost use Rattle.yohrundel.specs.Answers.{updateStartAnswerOf};
 use crate::answers::UpdateStartAnswer;
 use device::record::Device;
 use geometry::banks::Geometry;
-use update_start::start::start;
+use update_start::start;
 use yohrundel_lent::answer::TurnAnswer;
 use yohrundel_lent::answer::turn_answer;
 

@@ -4,7 +4,7 @@ ghost use Rattle.update.specs.Turn.{turnOf};
 ghost use Rattle.yohrundel_lent.specs.Answer.{TurnGives};
 use device::record::Device;
 use geometry::banks::Geometry;
-use update_turn::turn::turn;
+use update_turn::turn;
 
 // What a turn tells beside the device.
 #[repr(C)]

@@ -3,7 +3,7 @@ use borrow.Author.Needs.{needs}
 use lib.Seq.{length-take-le}
 use mathlib.Core.Path.{sym}
 use native.Mathlib.Omega.{arith}
-use Rattle.play_program.proofs.ProgramLaws.{print-within}
+use Rattle.script_program.proofs.ProgramLaws.{print-within}
 use Rattle.play.proofs.play_input.Statement.{statement}
 use Rattle.play.proofs.play_input.Tie as tie
 

@@ -9,8 +9,8 @@ use borrow.Author.Needs.{needs}
 use borrow.Author.Tests.{not-false}
 use Rattle.geometry.specs.Banks.{InRange, pageWordsOf}
 use Rattle.words.specs.Decline.{acceptedOf}
-use Rattle.parts.specs.Parts.{pageDeclineOf, pagePartOf}
-use Rattle.parts.proofs.AcceptedLaws.{page-lies}
+use Rattle.bank_parts.specs.Parts.{pageDeclineOf, pagePartOf}
+use Rattle.bank_parts.proofs.AcceptedLaws.{page-lies}
 use Rattle.conformance_answers.proofs.bank_calls.page_answer.Statement.{statement}
 use Rattle.conformance_answers.proofs.bank_calls.page_answer.Tie as tie
 

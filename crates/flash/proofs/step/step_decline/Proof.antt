@@ -14,7 +14,7 @@ step-decline-spec =
     (tie.spec
     (λ c κs. search needs)
     (λ c κs. search needs)
-    (λ c. let e = c .before .before .opening .ensures in rw (stopped e (c .before .is-accepted .ensures) (c .if1 .taken)) e)
+    (λ c. let e = c .before .before .common-decline .ensures in rw (stopped e (c .before .is-accepted .ensures) (c .if1 .taken)) e)
     (λ c κs. search needs)
-    (λ c. rw (went-on (c .before .before .before .before .opening .ensures) (c .before .before .before .is-accepted .ensures) (c .before .before .if1 .left), sym (c .before .has .ensures) ∙ not-true _ (c .if2 .taken)))
-    (λ c. rw (went-on (c .before .before .before .before .opening .ensures) (c .before .before .before .is-accepted .ensures) (c .before .before .if1 .left), sym (c .before .has .ensures) ∙ not-false _ (c .if2 .left))))
+    (λ c. rw (went-on (c .before .before .before .before .common-decline .ensures) (c .before .before .before .is-accepted .ensures) (c .before .before .if1 .left), sym (c .before .has .ensures) ∙ not-true _ (c .if2 .taken)))
+    (λ c. rw (went-on (c .before .before .before .before .common-decline .ensures) (c .before .before .before .is-accepted .ensures) (c .before .before .if1 .left), sym (c .before .has .ensures) ∙ not-false _ (c .if2 .left))))

@@ -4,7 +4,7 @@ use mathlib.Core.Bool.{true}
 use lib.ListN.{length}
 use Rattle.words.specs.Decline.{numberOf, acceptedOf}
 use Rattle.words.proofs.DeclineLaws.{stopped, went-on}
-use Rattle.parts.specs.Parts.{lowerBankDeclineOf, lowerBankOf}
+use Rattle.bank_parts.specs.Parts.{lowerBankDeclineOf, lowerBankOf}
 use Rattle.yohrundel.specs.Answers.{lowerBankAnswerOf}
 use borrow.Author.Needs.{needs}
 use borrow.Author.Tests.{eqb-true}

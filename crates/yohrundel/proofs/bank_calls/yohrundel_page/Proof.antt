@@ -7,8 +7,8 @@ use lib.ListN.{length}
 use Rattle.words.specs.Decline.{numberOf, acceptedOf}
 use Rattle.words.proofs.DeclineLaws.{stopped, went-on}
 use Rattle.geometry.specs.Banks.{InRange, pageWordsOf}
-use Rattle.parts.specs.Parts.{pageDeclineOf, pagePartOf}
-use Rattle.parts.proofs.AcceptedLaws.{page-lies}
+use Rattle.bank_parts.specs.Parts.{pageDeclineOf, pagePartOf}
+use Rattle.bank_parts.proofs.AcceptedLaws.{page-lies}
 use Rattle.yohrundel.specs.Answers.{pageAnswerOf}
 use borrow.Author.Needs.{needs}
 use borrow.Author.Tests.{eqb-true}

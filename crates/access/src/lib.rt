@@ -1,2 +1,0 @@
-// Accesses of the registers: stores and register reads.
-pub mod store;

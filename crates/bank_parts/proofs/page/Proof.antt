@@ -1,0 +1,51 @@
+-- Accepted, the part from the page's first word; declined, the empty part.
+use mathlib.Core.Path.{_≡_, sym, ap, _∙_}
+use mathlib.Core.Bool.{true}
+use Prim.Native.Nat.{_+_, _*_, _≤_}
+use native.Mathlib.Nat.{add-sub-cancel-left}
+use native.Mathlib.Omega.{arith}
+use lib.ListN.{length}
+use borrow.Author.Needs.{needs}
+use Rattle.geometry.specs.Banks.{InRange, pageWordsOf}
+use Rattle.words.specs.Decline.{acceptedOf}
+use Rattle.bank_parts.specs.Parts.{pageDeclineOf, pagePartOf}
+use Rattle.words.proofs.BitLaws.{true-not-false}
+use Rattle.bank_parts.proofs.AcceptedLaws.{page-lies}
+use Rattle.bank_parts.proofs.page.Statement.{statement}
+use Rattle.bank_parts.proofs.page.Tie as tie
+
+accepted : (c : tie.Then1) → let a = c .before .before .before .before .args in
+    acceptedOf (pageDeclineOf (a .g) (length (a .bank .now)) (a .page)) ≡ true
+accepted c =
+    ap acceptedOf (sym (c .before .before .page-decline .ensures)) ∙ sym (c .before .is-accepted .ensures) ∙ c .if1 .taken
+
+lies : (c : tie.Then1) → let a = c .before .before .before .before .args in
+    InRange (a .g) × (a .page * pageWordsOf (a .g) + pageWordsOf (a .g) ≤ length (a .bank .now))
+lies c = let a = c .before .before .before .before .args in page-lies (a .g) (length (a .bank .now)) (a .page) (accepted c)
+
+room : (c : tie.After-page-words) → let a = c .before .before .before .before .before .args in
+    a .page * c .page-words .result + c .page-words .result ≤ length (a .bank .now)
+room c = rw (c .page-words .ensures) (lies (c .before) .1)
+
+pub page-spec : {M : Type 1} → statement M
+unfolding pagePartOf
+page-spec =
+    tie.close
+    (tie.spec
+    (λ c κs. search needs)
+    (λ c κs. search needs)
+    (λ c κs. lies c .0)
+    (λ c. search needs)
+    (λ c. omega (arith, room c))
+    (λ c. omega (arith, room c))
+    (λ c. omega (arith, room c))
+    (λ c. search needs)
+    (λ c. search needs)
+    (λ c. omega (arith, room c))
+    (λ c. (λ h. rw (c .before .page-words .ensures), rw (accepted (c .before .before), add-sub-cancel-left, c .before .page-words .ensures)))
+    (λ c. search needs)
+    (λ c. search needs)
+    (λ c. search needs)
+    (λ c.
+    let declined = ap acceptedOf (sym (c .before .before .before .page-decline .ensures)) ∙ sym (c .before .before .is-accepted .ensures) ∙ c .before .if1 .left in
+    (λ h. true-not-false (sym h ∙ declined), rw declined)))

@@ -1,0 +1,3 @@
+pub mod PossibleLaws
+pub mod CommonDeclineLaws
+pub mod TableLaws

@@ -1,0 +1,125 @@
+-- A possible device by its facts: each register within its mask, bit 6 of NVMBWP set, the key step, and what runs.
+-- Assumes nothing.
+use mathlib.Core.Path.{_≡_}
+use mathlib.Core.Bool.{true, false, _&&_}
+use Prim.Native.Nat.{ℕ, zero, suc, _^_, _≤_, _<_}
+use native.Mathlib.Omega.{arith}
+use lib.Dec.{eqb, leb}
+use lib.Bits.{bitAnd}
+use borrow.Author.Tests.{le-leb, leb-true, eqb-true}
+use Rattle.words.specs.Word.{pick, hasOf}
+use Rattle.words.specs.Quad.{wordAt}
+use Rattle.words.proofs.PickLaws.{and-both}
+use Rattle.words.proofs.MaskLaws.{Within, within-test, test-within, below-within, within-below}
+use Rattle.geometry.specs.declared.banks.Geometry.{Geometry}
+use Rattle.device.specs.declared.record.Device.{Device}
+use Rattle.device.specs.Registers.{withinOf, ALWAYS}
+use Rattle.device.specs.Builders.{withCon}
+use Rattle.device.specs.Record.{registerOf, running}
+use Rattle.common_declines.specs.Possible.{rowsFit, implementedOf, runningOf, possibleOf}
+
+-- each register is within its mask
+pub record Implemented (d : Device) : Type 0 where
+  pub con : Within 0xF0CF (d .nvmcon .0)
+  pub key : Within 0 (d .nvmkey)
+  pub addr : d .nvmaddr < 2 ^ 32
+  pub words : (j : ℕ) → j < 4 → wordAt (d .nvmdata) j < 2 ^ 32
+  pub src : d .nvmsrcaddr < 2 ^ 32
+  pub pwp : Within 0x80FF_FFFF (d .nvmpwp .0)
+  pub bwp : Within 0x9FDF (d .nvmbwp .0)
+  pub con2 : Within 0xF01F_B3C0 (d .nvmcon2 .0)
+
+word-test : (w : ℕ) → w < 2 ^ 32 → eqb (bitAnd w 0xFFFF_FFFF) w ≡ true
+word-test w h = within-test 0xFFFF_FFFF w (below-within 32 w h)
+
+test-word : (w : ℕ) → eqb (bitAnd w 0xFFFF_FFFF) w ≡ true → w < 2 ^ 32
+test-word w e = within-below 32 w (test-within 0xFFFF_FFFF w e)
+
+pub implemented : (d : Device) → implementedOf d ≡ true → Implemented d
+unfolding implementedOf registerOf
+implemented d h =
+    let s10 = and-both (rowsFit d 10) (withinOf 10 (registerOf d 10)) h in
+    let s9 = and-both (rowsFit d 9) (withinOf 9 (registerOf d 9)) (s10 .0) in
+    let s8 = and-both (rowsFit d 8) (withinOf 8 (registerOf d 8)) (s9 .0) in
+    let s7 = and-both (rowsFit d 7) (withinOf 7 (registerOf d 7)) (s8 .0) in
+    let s6 = and-both (rowsFit d 6) (withinOf 6 (registerOf d 6)) (s7 .0) in
+    let s5 = and-both (rowsFit d 5) (withinOf 5 (registerOf d 5)) (s6 .0) in
+    let s4 = and-both (rowsFit d 4) (withinOf 4 (registerOf d 4)) (s5 .0) in
+    let s3 = and-both (rowsFit d 3) (withinOf 3 (registerOf d 3)) (s4 .0) in
+    let s2 = and-both (rowsFit d 2) (withinOf 2 (registerOf d 2)) (s3 .0) in
+    let s1 = and-both (rowsFit d 1) (withinOf 1 (registerOf d 1)) (s2 .0) in
+    let s0 = and-both (rowsFit d 0) (withinOf 0 (registerOf d 0)) (s1 .0) in
+    record {
+      con = test-within 0xF0CF (d .nvmcon .0) (s0 .1);
+      key = test-within 0 (d .nvmkey) (s1 .1);
+      addr = test-word (d .nvmaddr) (s2 .1);
+      words = four (test-word _ (s3 .1)) (test-word _ (s4 .1)) (test-word _ (s5 .1)) (test-word _ (s6 .1));
+      src = test-word (d .nvmsrcaddr) (s7 .1);
+      pwp = test-within 0x80FF_FFFF (d .nvmpwp .0) (s8 .1);
+      bwp = test-within 0x9FDF (d .nvmbwp .0) (s9 .1);
+      con2 = test-within 0xF01F_B3C0 (d .nvmcon2 .0) (s10 .1);
+    }
+  where
+    P : ℕ → Type 0
+    P j = wordAt (d .nvmdata) j < 2 ^ 32
+
+    four : P 0 → P 1 → P 2 → P 3 → (j : ℕ) → j < 4 → P j
+    four a b c e zero l = a
+    four a b c e (suc zero) l = b
+    four a b c e (suc (suc zero)) l = c
+    four a b c e (suc (suc (suc zero))) l = e
+    four a b c e (suc (suc (suc (suc j)))) l = absurd (omega arith)
+
+pub implemented-test : (d : Device) → Implemented d → implementedOf d ≡ true
+unfolding implementedOf registerOf
+implemented-test d h =
+    rw (
+      within-test 0xF0CF (d .nvmcon .0) (h .con),
+      within-test 0 (d .nvmkey) (h .key),
+      word-test (d .nvmaddr) (h .addr),
+      word-test (wordAt (d .nvmdata) 0) (h .words 0 (omega arith)),
+      word-test (wordAt (d .nvmdata) 1) (h .words 1 (omega arith)),
+      word-test (wordAt (d .nvmdata) 2) (h .words 2 (omega arith)),
+      word-test (wordAt (d .nvmdata) 3) (h .words 3 (omega arith)),
+      word-test (d .nvmsrcaddr) (h .src),
+      within-test 0x80FF_FFFF (d .nvmpwp .0) (h .pwp),
+      within-test 0x9FDF (d .nvmbwp .0) (h .bwp),
+      within-test 0xF01F_B3C0 (d .nvmcon2 .0) (h .con2),
+    )
+
+-- the four parts of decline 3
+pub record Possible (g : Geometry) (d : Device) : Type 0 where
+  pub rows : Implemented d
+  pub always : hasOf (d .nvmbwp .0) ALWAYS ≡ true
+  pub keys : d .keystep ≤ 3
+  pub runs : pick (running d) (runningOf g d) (eqb (d .step) 0) ≡ true
+
+pub possible : (g : Geometry) (d : Device) → possibleOf g d ≡ true → Possible g d
+unfolding possibleOf
+possible g d h =
+    let s0 = and-both (implementedOf d) (hasOf (d .nvmbwp .0) ALWAYS && (leb (d .keystep) 3 && pick (running d) (runningOf g d) (eqb (d .step) 0))) h in
+    let s1 = and-both (hasOf (d .nvmbwp .0) ALWAYS) (leb (d .keystep) 3 && pick (running d) (runningOf g d) (eqb (d .step) 0)) (s0 .1) in
+    let s2 = and-both (leb (d .keystep) 3) (pick (running d) (runningOf g d) (eqb (d .step) 0)) (s1 .1) in
+    record { rows = implemented d (s0 .0); always = s1 .0; keys = leb-true _ _ (s2 .0); runs = s2 .1 }
+
+pub possible-test : (g : Geometry) (d : Device) → Possible g d → possibleOf g d ≡ true
+unfolding possibleOf
+possible-test g d h = rw (implemented-test d (h .rows), h .always, le-leb _ _ (h .keys), h .runs)
+
+-- with WR = 0 the step number is 0
+pub idle-step : (g : Geometry) (d : Device) → possibleOf g d ≡ true → running d ≡ false → d .step ≡ 0
+idle-step g d h idle = eqb-true _ _ (rw idle at (possible g d h .runs))
+
+-- the rows say nothing of the key step and the step number
+pub same-rows : (d : Device) (con keystep step : ℕ) → Within 0xF0CF con → Implemented d → Implemented (withCon d con keystep step)
+same-rows d con keystep step h old =
+    record {
+      con = h;
+      key = old .key;
+      addr = old .addr;
+      words = old .words;
+      src = old .src;
+      pwp = old .pwp;
+      bwp = old .bwp;
+      con2 = old .con2;
+    }

@@ -1,0 +1,37 @@
+-- Decline 3: "The device record is impossible". Assumes nothing.
+use Prim.Native.Nat.{ℕ}
+use mathlib.Core.Bool.{Bool, not, _&&_}
+use lib.Dec.{eqb, leb, ltb}
+use Rattle.words.specs.Word.{pick, hasOf, allBelow}
+use Rattle.geometry.specs.declared.banks.Geometry.{Geometry}
+use Rattle.device.specs.declared.record.Device.{Device}
+use Rattle.device.specs.Registers.{withinOf, WRERR, LVDERR, ALWAYS}
+use Rattle.device.specs.Record.{registerOf, running, opOf}
+use Rattle.nvmop.specs.Operation.{beginsOf, lengthOf}
+
+-- each register below number n is within its mask
+abbrev pub rowsFit : Device → ℕ → Bool
+rowsFit d n = allBelow (λ r. withinOf r (registerOf d r)) n
+
+-- "an unimplemented bit set", over the table of eleven rows; "NVMKEY not 0" is its row's mask, 0
+unfoldable pub implementedOf : Device → Bool
+implementedOf d = rowsFit d 11
+
+-- "WR = 1 with key step not 0, WRERR = 0, LVDERR = 1, an NVMOP or target for which no steps begin, or step number not
+-- below its length": none of these
+unfoldable pub runningOf : Geometry → Device → Bool
+runningOf g d =
+    eqb (d .keystep) 0
+    && (hasOf (d .nvmcon .0) WRERR
+    && (not (hasOf (d .nvmcon .0) LVDERR)
+    && (beginsOf g d
+    && ltb (d .step) (lengthOf g (opOf d)))))
+
+-- "an unimplemented bit set, NVMBWP bit 6 clear, NVMKEY not 0, key step above 3, WR = 0 with step number not 0, or WR = 1
+-- with" the above: none of these
+unfoldable pub possibleOf : Geometry → Device → Bool
+possibleOf g d =
+    implementedOf d
+    && (hasOf (d .nvmbwp .0) ALWAYS
+    && (leb (d .keystep) 3
+    && pick (running d) (runningOf g d) (eqb (d .step) 0)))

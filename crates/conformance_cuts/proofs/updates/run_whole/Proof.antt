@@ -1,0 +1,33 @@
+-- The invariant: the banks keep their lengths. The measure is the turns that are left.
+use borrow.Author.Needs.{needs}
+use Prim.Native.Nat.{_≤_, _-_}
+use mathlib.Core.Path.{_≡_}
+use native.Mathlib.Omega.{arith}
+use lib.ListN.{length}
+use Rattle.conformance_cuts.proofs.updates.run_whole.Statement.{statement}
+use Rattle.conformance_cuts.proofs.updates.run_whole.Tie as tie
+
+abbrev Inv-loop : tie.InvT-loop
+Inv-loop g one₀ two₀ image total ended₀ turns₀ one two ended turns =
+    (turns ≤ total) × (length one ≡ length one₀) × (length two ≡ length two₀)
+
+abbrev μ-loop : tie.MeasureT-loop
+μ-loop g one₀ two₀ image total ended₀ turns₀ one two ended turns = total - turns
+
+pub run-whole-spec : {M : Type 1} → statement M
+run-whole-spec =
+    tie.close
+    (tie.spec
+    Inv-loop
+    μ-loop
+    (λ c. search needs)
+    (λ c κs. search needs)
+    (λ c κs. search needs)
+    (λ c. omega (arith, c .before .before .before .before .before .before .before .before .before .before .before .before .before .before .fits .total, c .before .before .before .before .before .before .before .before .before .loop-test .taken))
+    (λ c. search needs)
+    (λ c. search needs)
+    (λ c κs. search needs)
+    (λ c κs. search needs)
+    (λ c. search needs)
+    (λ c. search needs)
+    (λ c. search needs))

@@ -1,0 +1,30 @@
+-- What holds of the controller, in one place. Assumes nothing.
+use Rattle.words.proofs.PickLaws.{and-both, all-below}
+use Rattle.device.specs.Record.{registerOf}
+use Rattle.device.specs.Registers.{withinOf}
+use Rattle.common_declines.specs.Possible.{implementedOf, possibleOf}
+use Rattle.controller.specs.Controller.{Controller}
+use Rattle.controller.proofs.DeviceLaws.{power-on-possible}
+use Rattle.controller.specs.Controller.Operation.{step, reset}
+use Rattle.controller.proofs.WriteLaws.{writes-one-quad, one-quad}
+use Rattle.controller.proofs.ProtectedPageLaws.{keeps}
+use Rattle.controller.proofs.RunLaws.{run-sound, declined-same, compared}
+use Rattle.controller.proofs.StartUpLaws.{start-up-runs, start-up-accepted, start-up-sound, start-up-cut}
+
+pub controller : Controller
+unfolding possibleOf implementedOf
+controller =
+    record {
+      stays-sound = run-sound;
+      power-on = λ g one two a b. record { possible = power-on-possible g; first = a; other = b };
+      declined-same = declined-same;
+      masked = λ g s h r l. all-below (λ r. withinOf r (registerOf (s .device) r)) 11 (and-both (implementedOf (s .device)) _ (h .possible) .0) r l;
+      one-quad = λ g s sram. one-quad g s _ (writes-one-quad g s (step sram));
+      one-quad-torn = λ g s sram kind mask. one-quad g s _ (writes-one-quad g s (reset sram kind mask));
+      keeps = keeps;
+      compared = compared;
+      start-up-runs = start-up-runs;
+      start-up-accepted = start-up-accepted;
+      start-up-sound = start-up-sound;
+      start-up-cut = start-up-cut;
+    }

@@ -1,0 +1,178 @@
+-- A step and a reset leave a possible device, and after a reset BFSWAP is the comparison.
+-- Assumes nothing.
+use mathlib.Core.Path.{_≡_, refl, _∙_}
+use mathlib.Core.Bool.{Bool, true, false, not, _&&_, or-false, and-false}
+use mathlib.Core.List.{[], _∷_}
+use Prim.Native.Nat.{ℕ, zero, suc, _+_, _^_, _<_}
+use native.Mathlib.Omega.{arith}
+use lib.Dec.{eqb, ltb, lit<}
+use lib.Bits.{bitOr}
+use borrow.Author.Tests.{eqb-false, lt-ltb, ltb-true}
+use Rattle.words.specs.Word.{pick, bit, hasOf, clearOf}
+use Rattle.words.specs.Quad.{wordAt}
+use Rattle.words.proofs.PickLaws.{pick-both, and-both}
+use Rattle.words.proofs.BitLaws.{bit-or, clear-bit, has-bit}
+use Rattle.words.proofs.MaskLaws.{Within, merge-within, or-within, clear-within}
+use Rattle.geometry.specs.declared.banks.Geometry.{Geometry}
+use Rattle.device.specs.declared.record.Device.{Device}
+use Rattle.device.specs.Registers.{WR, WRERR, LVDERR, BFSWAP, NVMERS}
+use Rattle.device.specs.Builders.{powerOn, withCon}
+use Rattle.device.specs.Record.{running, bfswap, opOf}
+use Rattle.nvmop.specs.Operation.{beginsOf, lengthOf}
+use Rattle.common_declines.specs.Possible.{runningOf, possibleOf}
+use Rattle.common_declines.proofs.PossibleLaws.{Implemented, Possible, possible, possible-test, same-rows}
+use Rattle.device.specs.declared.answer.Answer.{Answer}
+use Rattle.flash.specs.Step.{advanced, advanceOf}
+use Rattle.resets.specs.Reset.{resetConOf, resetDeviceOf}
+
+-- ---- a step
+module _ (g : Geometry) (d : Device) (can : possibleOf g d ≡ true) (on : running d ≡ true) where
+  was : Possible g d
+  was = possible g d can
+
+  -- with WR = 0 and step number 0
+  rested : (con : ℕ) → Within 0xF0CF con → bit 15 con ≡ false → possibleOf g (withCon d con (d .keystep) 0) ≡ true
+  rested con h off =
+      possible-test g (withCon d con (d .keystep) 0)
+      (record { rows = same-rows d con (d .keystep) 0 h (was .rows); always = was .always; keys = was .keys; runs = rw (has-bit 15 con ∙ off) })
+
+  going : (eqb (d .step + 1) (lengthOf g (opOf d)) ≡ false) → possibleOf g (withCon d (d .nvmcon .0) (d .keystep) (d .step + 1)) ≡ true
+  unfolding runningOf
+  going more =
+      let s0 = and-both (eqb (d .keystep) 0) _ (rw on at (was .runs)) in
+      let s1 = and-both (hasOf (d .nvmcon .0) WRERR) _ (s0 .1) in
+      let s2 = and-both (not (hasOf (d .nvmcon .0) LVDERR)) _ (s1 .1) in
+      let s3 = and-both (beginsOf g d) (ltb (d .step) (lengthOf g (opOf d))) (s2 .1) in
+      let lt : d .step < lengthOf g (opOf d) = ltb-true _ _ (s3 .1) in
+      let ne : d .step + 1 ≡ lengthOf g (opOf d) → ⊥ = eqb-false _ _ more in
+      let next : d .step + 1 < lengthOf g (opOf d) = omega arith in
+      possible-test g (withCon d (d .nvmcon .0) (d .keystep) (d .step + 1))
+      (record {
+        rows = same-rows d _ (d .keystep) (d .step + 1) (was .rows .con) (was .rows);
+        always = was .always;
+        keys = was .keys;
+        runs = rw (on, s0 .0, s1 .0, s2 .0, s3 .0, lt-ltb _ _ next);
+      })
+
+  pub advance-possible : (aborts : Bool) → possibleOf g (advanceOf g d aborts .device) ≡ true
+  unfolding advanceOf
+  advance-possible aborts =
+      pick-both P aborts (rested (clearOf (d .nvmcon .0) WR) (clear-within 0xF0CF _ WR (was .rows .con))
+      (clear-bit 15 (d .nvmcon .0) WR ∙ and-false (bit 15 (d .nvmcon .0))))
+      (go (eqb (d .step + 1) (lengthOf g (opOf d))) refl)
+    where
+      P : Answer → Type 0
+      P a = possibleOf g (a .device) ≡ true
+
+      go : (t : Bool) → eqb (d .step + 1) (lengthOf g (opOf d)) ≡ t
+          → P (pick t (advanced (withCon d (clearOf (d .nvmcon .0) (WR + WRERR)) (d .keystep) 0) true)
+          (advanced (withCon d (d .nvmcon .0) (d .keystep) (d .step + 1)) false))
+      go true e = rested (clearOf (d .nvmcon .0) 0xA000) (clear-within 0xF0CF _ 0xA000 (was .rows .con))
+          (clear-bit 15 (d .nvmcon .0) 0xA000 ∙ and-false (bit 15 (d .nvmcon .0)))
+      go false e = going e
+
+-- ---- a reset
+zeros : (j : ℕ) → wordAt (0 ∷ 0 ∷ 0 ∷ 0 ∷ []) j < 2 ^ 32
+zeros zero = lit< tt
+zeros (suc zero) = lit< tt
+zeros (suc (suc zero)) = lit< tt
+zeros (suc (suc (suc zero))) = lit< tt
+zeros (suc (suc (suc (suc j)))) = lit< tt
+
+fresh-rows : Implemented powerOn
+fresh-rows =
+    record {
+      con = record { inside = refl };
+      key = record { inside = refl };
+      addr = lit< tt;
+      words = λ j l. zeros j;
+      src = lit< tt;
+      pwp = record { inside = refl };
+      bwp = record { inside = refl };
+      con2 = record { inside = refl };
+    }
+
+pub power-on-possible : (g : Geometry) → possibleOf g powerOn ≡ true
+power-on-possible g =
+    possible-test g powerOn (record { rows = fresh-rows; always = refl; keys = omega arith; runs = refl })
+
+module _ (g : Geometry) (d : Device) (can : possibleOf g d ≡ true) (kind : ℕ) (swap : Bool) where
+  old : Possible g d
+  old = possible g d can
+
+  -- NVMCON after a reset: within its mask, WR and BFSWAP clear before the comparison
+  Cleared : ℕ → Type 0
+  Cleared c = Within 0xF0CF c × (bit 15 c ≡ false) × (bit 6 c ≡ false)
+
+  cleared : Cleared (resetConOf d kind)
+  unfolding resetConOf Cleared
+  cleared =
+      pick-both Cleared (eqb kind 0) (record { inside = refl }, refl, refl)
+      (pick-both Cleared (eqb kind 1 && running d) (
+        or-within 0xF0CF kept LVDERR (keeps .0) (record { inside = refl }),
+        bit-or 15 kept LVDERR ∙ or-false (bit 15 kept) ∙ keeps .1,
+        bit-or 6 kept LVDERR ∙ or-false (bit 6 kept) ∙ keeps .2,
+      )
+      keeps)
+    where
+      kept : ℕ
+      kept = clearOf (d .nvmcon .0) 0xC0C0
+
+      keeps : Cleared kept
+      keeps = (
+        clear-within 0xF0CF (d .nvmcon .0) 0xC0C0 (old .rows .con),
+        clear-bit 15 (d .nvmcon .0) 0xC0C0 ∙ and-false (bit 15 (d .nvmcon .0)),
+        clear-bit 6 (d .nvmcon .0) 0xC0C0 ∙ and-false (bit 6 (d .nvmcon .0)),
+      )
+
+  con : ℕ
+  con = bitOr (resetConOf d kind) (pick swap BFSWAP 0)
+
+  con-within : Within 0xF0CF con
+  unfolding con Cleared
+  con-within = or-within 0xF0CF (resetConOf d kind) (pick swap BFSWAP 0) (cleared .0)
+      (pick-both (Within 0xF0CF) swap (record { inside = refl }) (record { inside = refl }))
+
+  con-idle : hasOf con WR ≡ false
+  unfolding con Cleared
+  con-idle = has-bit 15 con ∙ bit-or 15 (resetConOf d kind) (pick swap BFSWAP 0) ∙ rw (cleared .1) (off swap)
+    where
+      off : (t : Bool) → bit 15 (pick t BFSWAP 0) ≡ false
+      off true = refl
+      off false = refl
+
+  con-swap : hasOf con BFSWAP ≡ swap
+  unfolding con Cleared
+  con-swap = has-bit 6 con ∙ bit-or 6 (resetConOf d kind) (pick swap BFSWAP 0) ∙ rw (cleared .2) (is swap)
+    where
+      is : (t : Bool) → bit 6 (pick t BFSWAP 0) ≡ t
+      is true = refl
+      is false = refl
+
+  pub reset-swap : bfswap (resetDeviceOf d kind swap) ≡ swap
+  unfolding resetDeviceOf con
+  reset-swap = pick-both (λ (e : Device). bfswap e ≡ swap) (eqb kind 0) con-swap con-swap
+
+  pub reset-possible : possibleOf g (resetDeviceOf d kind swap) ≡ true
+  unfolding resetDeviceOf con
+  reset-possible =
+      pick-both (λ (e : Device). possibleOf g e ≡ true) (eqb kind 0)
+      (possible-test g (withCon powerOn con 0 0)
+      (record { rows = same-rows powerOn con 0 0 con-within fresh-rows; always = refl; keys = omega arith; runs = rw con-idle }))
+      (possible-test g _
+      (record {
+        rows =
+            record {
+              con = con-within;
+              key = old .rows .key;
+              addr = old .rows .addr;
+              words = old .rows .words;
+              src = old .rows .src;
+              pwp = record { inside = refl };
+              bwp = record { inside = refl };
+              con2 = merge-within 0xF01F_B3C0 NVMERS (d .nvmcon2 .0) 0x001F_0000 (record { inside = refl }) (record { inside = refl });
+            };
+        always = refl;
+        keys = omega arith;
+        runs = rw con-idle;
+      }))

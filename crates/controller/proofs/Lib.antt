@@ -1,0 +1,11 @@
+pub mod StoreLaws
+pub mod StoreEquations
+pub mod ChangeLaws
+pub mod DeviceLaws
+pub mod ProtectionLaws
+pub mod WriteLaws
+pub mod ProtectedPageLaws
+pub mod RunLaws
+pub mod RestLaws
+pub mod StartUpLaws
+pub mod Controller

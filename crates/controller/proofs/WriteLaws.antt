@@ -1,0 +1,162 @@
+-- What each operation does to the banks: only a step and a tear write, at most the quad of the next step in the bank in which it
+-- stands, while an operation runs, and never in a protected page. So the other bank stays, and so do the words outside the quad.
+-- Assumes nothing.
+use mathlib.Core.Path.{_≡_, refl, sym, ap, _∙_}
+use mathlib.Core.Bool.{Bool, true, false, not}
+use mathlib.Core.List.{List, []}
+use Prim.Native.Nat.{ℕ}
+use lib.ListN.{length}
+use Rattle.words.specs.Word.{pick}
+use Rattle.words.specs.Quad.{wordAt}
+use Rattle.words.proofs.PickLaws.{pick-both, and-both}
+use Rattle.words.proofs.BitLaws.{true-not-false}
+use Rattle.words.proofs.QuadLaws.{put-length, put-other-word}
+use Rattle.geometry.specs.declared.banks.Geometry.{Geometry}
+use Rattle.words.specs.Decline.{acceptedOf}
+use Rattle.map.specs.Windows.{pageOf}
+use Rattle.device.specs.Record.{running}
+use Rattle.protection.specs.Protection.{protectedOf}
+use Rattle.flash.specs.Effect.{Runs, stepLocationOf, effectOf}
+use Rattle.flash.specs.declared.write.Write.{Write}
+use Rattle.flash.specs.Write.{oneAfter, twoAfter}
+use Rattle.flash.specs.Step.{stepEffectOf, steppedOf, stepAnswerOf, stepOf}
+use Rattle.flash.proofs.EffectLaws.{effect-second, effect-quad}
+use Rattle.flash.proofs.AcceptedLaws.{runs, step-ready}
+use Rattle.resets.specs.Reset.{tornOf, tearOf, restartOf, resetAnswerOf, resetOf}
+use Rattle.resets.proofs.AcceptedLaws.{reset-ready}
+use Rattle.device.specs.State.{State, bankOf, After, after}
+use Rattle.controller.specs.Controller.{Operation, transitionOf, Outside, stepSecondOf, stepQuadOf, OneQuad}
+use Rattle.controller.specs.Controller.Operation.{store, registerRead, flashRead, step, reset}
+use Rattle.controller.proofs.ProtectionLaws.{unprotected}
+
+-- ---- what an accepted operation leaves, and what a declined one
+-- a property of the state after a step, where it is carried out and where not
+pub by-step : (g : Geometry) (s : State) (sram : List ℕ) (P : After → Type 0)
+    → (acceptedOf (stepAnswerOf g s sram) ≡ true → P (steppedOf s (stepEffectOf g s sram)))
+    → (acceptedOf (stepAnswerOf g s sram) ≡ false → P (after (stepAnswerOf g s sram) s false))
+    → P (stepOf g s sram)
+unfolding stepOf
+by-step g s sram P yes′ no′ = go (acceptedOf (stepAnswerOf g s sram)) refl
+  where
+    go : (t : Bool) → acceptedOf (stepAnswerOf g s sram) ≡ t → P (pick t (steppedOf s (stepEffectOf g s sram)) (after (stepAnswerOf g s sram) s false))
+    go true e = yes′ e
+    go false e = no′ e
+
+pub by-reset : (g : Geometry) (s : State) (sram : List ℕ) (kind : ℕ) (mask : List ℕ) (P : After → Type 0)
+    → (acceptedOf (resetAnswerOf g s sram kind) ≡ true → P (restartOf g (tearOf g s sram mask) kind))
+    → (acceptedOf (resetAnswerOf g s sram kind) ≡ false → P (after (resetAnswerOf g s sram kind) s false))
+    → P (resetOf g s sram kind mask)
+unfolding resetOf
+by-reset g s sram kind mask P yes′ no′ = go (acceptedOf (resetAnswerOf g s sram kind)) refl
+  where
+    go : (t : Bool) → acceptedOf (resetAnswerOf g s sram kind) ≡ t
+        → P (pick t (restartOf g (tearOf g s sram mask) kind) (after (resetAnswerOf g s sram kind) s false))
+    go true e = yes′ e
+    go false e = no′ e
+
+-- ---- the write of an operation
+-- the banks of t are those of s but for at most one write, of the quad of the next step
+pub record Writes (g : Geometry) (s t : State) : Type 0 where
+  pub write : Write
+  pub second : write .second ≡ stepSecondOf g s
+  pub quad : write .quad ≡ stepQuadOf g s
+  pub first : t .one ≡ oneAfter (s .one) write
+  pub other : t .two ≡ twoAfter (s .two) write
+  -- it is made while an operation runs, and not in a protected page
+  pub allowed : write .writes ≡ true
+      → let l = stepLocationOf g (s .device) in Runs g (s .device) × (protectedOf g (s .device) (l .program) (l .upper) (pageOf g l) ≡ false)
+
+no-write : (g : Geometry) (s t : State) → t .one ≡ s .one → t .two ≡ s .two → Writes g s t
+no-write g s t one two =
+    record {
+      write = record { writes = false; second = stepSecondOf g s; quad = stepQuadOf g s; words = [] };
+      second = refl;
+      quad = refl;
+      first = one;
+      other = two;
+      allowed = λ e. true-not-false (sym e);
+    }
+
+pub writes-one-quad : (g : Geometry) (s : State) (o : Operation) → Writes g s (transitionOf g s o)
+writes-one-quad g s (store r form value) = no-write g s _ refl refl
+writes-one-quad g s (registerRead r) = no-write g s _ refl refl
+writes-one-quad g s (flashRead address) = no-write g s _ refl refl
+writes-one-quad g s (step sram) =
+    by-step g s sram (λ a. Writes g s (a .state))
+    (λ on.
+    let run = step-ready g (s .device) _ _ _ on .1 in
+    record {
+      write = effectOf g s sram .write;
+      second = effect-second g s sram;
+      quad = effect-quad g s sram;
+      first = refl;
+      other = refl;
+      allowed = λ w. (run, unprotected g s sram run w);
+    })
+    (λ off. no-write g s _ refl refl)
+writes-one-quad g s (reset sram kind mask) =
+    by-reset g s sram kind mask (λ a. Writes g s (a .state))
+    (λ on.
+    let ready = reset-ready g (s .device) _ _ _ kind on in
+    record {
+      write = tornOf s mask (effectOf g s sram .write);
+      second = effect-second g s sram;
+      quad = effect-quad g s sram;
+      first = refl;
+      other = refl;
+      allowed = λ w.
+          let (on, writes) = and-both (running (s .device)) (effectOf g s sram .write .writes) w in
+          let run = runs g (s .device) (ready .lent .range) (ready .possible) on in
+          (run, unprotected g s sram run writes);
+    })
+    (λ off. no-write g s _ refl refl)
+
+-- ---- what follows for the banks
+module _ (bank : List ℕ) (w : Write) where
+  one-length : length (oneAfter bank w) ≡ length bank
+  one-length =
+      pick-both (λ (l : List ℕ). length l ≡ length bank) (w .writes)
+      (pick-both (λ (l : List ℕ). length l ≡ length bank) (w .second) refl (put-length bank (w .quad) (w .words))) refl
+
+  two-length : length (twoAfter bank w) ≡ length bank
+  two-length =
+      pick-both (λ (l : List ℕ). length l ≡ length bank) (w .writes)
+      (pick-both (λ (l : List ℕ). length l ≡ length bank) (w .second) (put-length bank (w .quad) (w .words)) refl) refl
+
+module _ (one two : List ℕ) (quad : ℕ) (words : List ℕ) where
+  -- the banks after a write, bank 2 or bank 1
+  abbrev written : Bool → Bool → Bool → List ℕ
+  written writes second bank =
+      let w : Write = record { writes = writes; second = second; quad = quad; words = words } in pick bank (twoAfter two w) (oneAfter one w)
+
+  other-kept : (writes second : Bool) → written writes second (not second) ≡ pick (not second) two one
+  other-kept true true = refl
+  other-kept true false = refl
+  other-kept false true = refl
+  other-kept false false = refl
+
+  outside-kept : (writes second : Bool) (v : ℕ) → Outside quad v → wordAt (written writes second second) v ≡ wordAt (pick second two one) v
+  outside-kept true true v out = put-other-word two quad words v out
+  outside-kept true false v out = put-other-word one quad words v out
+  outside-kept false true v out = refl
+  outside-kept false false v out = refl
+
+module _ (g : Geometry) (s t : State) (w : Writes g s t) where
+  pub bank-length : (second : Bool) → length (bankOf t second) ≡ length (bankOf s second)
+  bank-length true = ap length (w .other) ∙ two-length (s .two) (w .write)
+  bank-length false = ap length (w .first) ∙ one-length (s .one) (w .write)
+
+  pub one-quad : OneQuad g s t
+  one-quad =
+      record {
+        other-bank =
+            rw (w .first, w .other, ← w .second) (other-kept (s .one) (s .two) (w .write .quad) (w .write .words) (w .write .writes) (w .write .second));
+        outside = λ v out.
+            rw (w .first, w .other, ← w .second)
+            (outside-kept (s .one) (s .two) (w .write .quad) (w .write .words) (w .write .writes) (w .write .second) v (rw (w .quad) out));
+      }
+
+  -- with no write both banks are as before
+  pub unwritten : w .write .writes ≡ false → (second : Bool) → bankOf t second ≡ bankOf s second
+  unwritten off true = w .other ∙ rw off
+  unwritten off false = w .first ∙ rw off

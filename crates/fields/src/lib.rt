@@ -1,2 +1,0 @@
-// Which fields take a stored value.
-pub mod fields;

@@ -1,2 +1,0 @@
-pub mod Protection
-pub mod Machine

@@ -1,9 +1,0 @@
--- The divisor is what `page_bytes` ensures.
-use borrow.Author.Needs.{needs}
-use Rattle.map.proofs.windows.page.Statement.{statement}
-use Rattle.map.proofs.windows.page.Tie as tie
-
-pub page-spec : {M : Type 1} → statement M
-page-spec =
-    tie.close
-    (tie.spec (λ c κs. search needs) (λ c. search needs) (λ c. rw (c .before .page-bytes .ensures)))

@@ -1,3 +1,0 @@
-pub mod PossibleLaws
-pub mod OpeningLaws
-pub mod TableLaws

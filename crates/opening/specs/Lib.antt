@@ -1,2 +1,0 @@
-pub mod Possible
-pub mod Opening

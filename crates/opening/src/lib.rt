@@ -1,3 +1,0 @@
-// What decline 3 takes, and declines 1 to 3, which open every call.
-pub mod opening;
-pub mod possible;

@@ -1,2 +1,0 @@
-// The operation that NVMOP names.
-pub mod operation;

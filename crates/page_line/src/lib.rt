@@ -1,2 +1,0 @@
-// The line of a page on the page sheet, as bytes.
-pub mod line;

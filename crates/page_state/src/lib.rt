@@ -1,2 +1,0 @@
-// What the page sheet says of a page.
-pub mod state;

@@ -1,2 +1,0 @@
-// The lower bank and a page, handed back as parts of what is lent.
-pub mod parts;

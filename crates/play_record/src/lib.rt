@@ -1,2 +1,0 @@
-// What a record of a script does.
-pub mod record;

@@ -1,2 +1,0 @@
-// The records of a service script, and decline 14.
-pub mod records;

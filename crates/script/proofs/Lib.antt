@@ -1,3 +1,0 @@
-pub mod MachineLaws
-pub mod AnswerLaws
-pub mod PlayLaws

@@ -1,2 +1,0 @@
-// The service script: playing it on lent banks.
-pub mod play;

@@ -1,0 +1,3 @@
+pub mod ControllerLaws
+pub mod AnswerLaws
+pub mod PlayLaws

@@ -1,9 +1,0 @@
--- The code is the definition.
-use mathlib.Core.Path.{refl}
-use Rattle.sequence.specs.Sequence.{complementOf}
-use Rattle.sequence.proofs.sequence.complement.Statement.{statement}
-use Rattle.sequence.proofs.sequence.complement.Tie as tie
-
-pub complement-spec : {M : Type 1} → statement M
-unfolding complementOf
-complement-spec = tie.close (tie.spec (λ c. refl))
