@@ -4,19 +4,20 @@ use mathlib.Core.List.{List, [], _∷_}
 use lib.ListN.{getD}
 use Rattle.device.specs.declared.record.Device.{Device}
 use Rattle.device.specs.Registers.{resets}
+use Rattle.device.specs.Numbers.{NVMCON, NVMKEY, NVMADDR, NVMDATA0, NVMDATA1, NVMDATA2, NVMDATA3, NVMSRCADDR, NVMPWP, NVMBWP, NVMCON2}
 
 -- "power-on gives all reset values": the device then, before the comparison of the banks
 abbrev pub powerOn : Device
 powerOn =
     record {
-      nvmcon = record { 0 = getD resets 0 0 };
-      nvmkey = getD resets 1 0;
-      nvmaddr = getD resets 2 0;
-      nvmdata = getD resets 3 0 ∷ getD resets 4 0 ∷ getD resets 5 0 ∷ getD resets 6 0 ∷ [];
-      nvmsrcaddr = getD resets 7 0;
-      nvmpwp = record { 0 = getD resets 8 0 };
-      nvmbwp = record { 0 = getD resets 9 0 };
-      nvmcon2 = record { 0 = getD resets 10 0 };
+      nvmcon = record { 0 = getD resets NVMCON 0 };
+      nvmkey = getD resets NVMKEY 0;
+      nvmaddr = getD resets NVMADDR 0;
+      nvmdata = getD resets NVMDATA0 0 ∷ getD resets NVMDATA1 0 ∷ getD resets NVMDATA2 0 ∷ getD resets NVMDATA3 0 ∷ [];
+      nvmsrcaddr = getD resets NVMSRCADDR 0;
+      nvmpwp = record { 0 = getD resets NVMPWP 0 };
+      nvmbwp = record { 0 = getD resets NVMBWP 0 };
+      nvmcon2 = record { 0 = getD resets NVMCON2 0 };
       keystep = 0;
       step = 0;
     }

@@ -1,3 +1,4 @@
+pub mod Numbers
 pub mod Registers
 pub mod Record
 pub mod Builders

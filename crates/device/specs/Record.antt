@@ -6,21 +6,22 @@ use Rattle.words.specs.Word.{pick, hasOf}
 use Rattle.words.specs.Quad.{wordAt}
 use Rattle.device.specs.declared.record.Device.{Device}
 use Rattle.device.specs.Registers.{WR, PFSWAP, BFSWAP}
+use Rattle.device.specs.Numbers.{NVMCON, NVMKEY, NVMADDR, NVMDATA0, NVMDATA1, NVMDATA2, NVMDATA3, NVMSRCADDR, NVMPWP, NVMBWP, NVMCON2}
 
 -- a register by its number, and 0 where there is none
 unfoldable pub registerOf : Device → ℕ → ℕ
 registerOf d r =
-    pick (eqb r 0) (d .nvmcon .0)
-    (pick (eqb r 1) (d .nvmkey)
-    (pick (eqb r 2) (d .nvmaddr)
-    (pick (eqb r 3) (wordAt (d .nvmdata) 0)
-    (pick (eqb r 4) (wordAt (d .nvmdata) 1)
-    (pick (eqb r 5) (wordAt (d .nvmdata) 2)
-    (pick (eqb r 6) (wordAt (d .nvmdata) 3)
-    (pick (eqb r 7) (d .nvmsrcaddr)
-    (pick (eqb r 8) (d .nvmpwp .0)
-    (pick (eqb r 9) (d .nvmbwp .0)
-    (pick (eqb r 10) (d .nvmcon2 .0) 0))))))))))
+    pick (eqb r NVMCON) (d .nvmcon .0)
+    (pick (eqb r NVMKEY) (d .nvmkey)
+    (pick (eqb r NVMADDR) (d .nvmaddr)
+    (pick (eqb r NVMDATA0) (wordAt (d .nvmdata) 0)
+    (pick (eqb r NVMDATA1) (wordAt (d .nvmdata) 1)
+    (pick (eqb r NVMDATA2) (wordAt (d .nvmdata) 2)
+    (pick (eqb r NVMDATA3) (wordAt (d .nvmdata) 3)
+    (pick (eqb r NVMSRCADDR) (d .nvmsrcaddr)
+    (pick (eqb r NVMPWP) (d .nvmpwp .0)
+    (pick (eqb r NVMBWP) (d .nvmbwp .0)
+    (pick (eqb r NVMCON2) (d .nvmcon2 .0) 0))))))))))
 
 -- the bits of NVMCON that other rules ask for
 abbrev pub running : Device → Bool

@@ -2,6 +2,13 @@
 ghost use mathlib.Core.Path.{_≡_};
 ghost use Rattle.device.specs.Builders.{powerOn, withCon};
 use crate::record::Device;
+use crate::registers::NVMADDR;
+use crate::registers::NVMDATA0;
+use crate::registers::NVMDATA1;
+use crate::registers::NVMDATA2;
+use crate::registers::NVMDATA3;
+use crate::registers::NVMKEY;
+use crate::registers::NVMSRCADDR;
 use crate::registers::Nvmbwp;
 use crate::registers::Nvmcon;
 use crate::registers::Nvmcon2;
@@ -12,21 +19,21 @@ use crate::registers::reset_value;
 pub fn power_on() -> Device
     ensures { λ r. ⌜ r ≡ powerOn ⌝ }
 {
-    let nvmcon = Nvmcon::new(reset_value(0));
-    let nvmpwp = Nvmpwp::new(reset_value(8));
-    let nvmbwp = Nvmbwp::new(reset_value(9));
-    let nvmcon2 = Nvmcon2::new(reset_value(10));
+    let nvmcon = Nvmcon::new(reset_value(Nvmcon::NUMBER));
+    let nvmpwp = Nvmpwp::new(reset_value(Nvmpwp::NUMBER));
+    let nvmbwp = Nvmbwp::new(reset_value(Nvmbwp::NUMBER));
+    let nvmcon2 = Nvmcon2::new(reset_value(Nvmcon2::NUMBER));
     Device {
         nvmcon,
-        nvmkey: reset_value(1),
-        nvmaddr: reset_value(2),
+        nvmkey: reset_value(NVMKEY),
+        nvmaddr: reset_value(NVMADDR),
         nvmdata: [
-            reset_value(3),
-            reset_value(4),
-            reset_value(5),
-            reset_value(6),
+            reset_value(NVMDATA0),
+            reset_value(NVMDATA1),
+            reset_value(NVMDATA2),
+            reset_value(NVMDATA3),
         ],
-        nvmsrcaddr: reset_value(7),
+        nvmsrcaddr: reset_value(NVMSRCADDR),
         nvmpwp,
         nvmbwp,
         nvmcon2,

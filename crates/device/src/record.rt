@@ -1,6 +1,13 @@
 // The device record.
 ghost use mathlib.Core.Path.{_≡_};
 ghost use Rattle.device.specs.Record.{registerOf};
+use crate::registers::NVMADDR;
+use crate::registers::NVMDATA0;
+use crate::registers::NVMDATA1;
+use crate::registers::NVMDATA2;
+use crate::registers::NVMDATA3;
+use crate::registers::NVMKEY;
+use crate::registers::NVMSRCADDR;
 use crate::registers::Nvmbwp;
 use crate::registers::Nvmcon;
 use crate::registers::Nvmcon2;
@@ -26,17 +33,17 @@ pub fn register(d: Device, number: u32) -> u32
     ensures { λ r. ⌜ r ≡ registerOf d number ⌝ }
 {
     match number {
-        0 => d.nvmcon.0,
-        1 => d.nvmkey,
-        2 => d.nvmaddr,
-        3 => d.nvmdata[0],
-        4 => d.nvmdata[1],
-        5 => d.nvmdata[2],
-        6 => d.nvmdata[3],
-        7 => d.nvmsrcaddr,
-        8 => d.nvmpwp.0,
-        9 => d.nvmbwp.0,
-        10 => d.nvmcon2.0,
+        Nvmcon::NUMBER => d.nvmcon.0,
+        NVMKEY => d.nvmkey,
+        NVMADDR => d.nvmaddr,
+        NVMDATA0 => d.nvmdata[0],
+        NVMDATA1 => d.nvmdata[1],
+        NVMDATA2 => d.nvmdata[2],
+        NVMDATA3 => d.nvmdata[3],
+        NVMSRCADDR => d.nvmsrcaddr,
+        Nvmpwp::NUMBER => d.nvmpwp.0,
+        Nvmbwp::NUMBER => d.nvmbwp.0,
+        Nvmcon2::NUMBER => d.nvmcon2.0,
         _ => 0,
     }
 }

@@ -106,6 +106,12 @@ pub const NVMADDR: u32 = 2;
 
 pub const NVMDATA0: u32 = 3;
 
+pub const NVMDATA1: u32 = 4;
+
+pub const NVMDATA2: u32 = 5;
+
+pub const NVMDATA3: u32 = 6;
+
 pub const NVMSRCADDR: u32 = 7;
 
 // The bits of each register that are implemented, by its number.

@@ -17,6 +17,7 @@ use Rattle.device.specs.Record.{opOf, bfswap, pfswap}
 use Rattle.protection.specs.Protection.{bootProtectedOf}
 use Rattle.nvmop.specs.Operation.{targetOf, beginsOf, lengthOf}
 use Rattle.flash.specs.declared.effect.Effect.{Effect}
+use Rattle.device.specs.Numbers.{quadProgram, rowProgram, lowerErase, upperErase}
 
 -- an operation that runs on a possible device: what the functions below ask for
 pub record Runs (g : Geometry) (d : Device) : Type 0 where
@@ -31,10 +32,10 @@ regionSteps g = 8 * g .q * g .p
 -- "A step does one quad, ascending"; "lower before upper for NVMOP 7"
 unfoldable pub stepAtOf : Geometry → ℕ → ℕ → ℕ → Location
 stepAtOf g op address step =
-    pick (ltb op 5)
+    pick (ltb op lowerErase)
     (located (targetOf g op address .program) (targetOf g op address .upper) (targetOf g op address .offset + 16 * step))
-    (pick (eqb op 5) (located true false (16 * step))
-    (pick (eqb op 6) (located true true (16 * step))
+    (pick (eqb op lowerErase) (located true false (16 * step))
+    (pick (eqb op upperErase) (located true true (16 * step))
     (pick (ltb step (regionSteps g)) (located true false (16 * step))
     (located true true (16 * (step - regionSteps g))))))
 
@@ -60,9 +61,9 @@ effect aborts writes second quad intended =
 -- "Erasing sets all ones. Programming needs four words of all ones (house), else it aborts." Where the old quad is given
 unfoldable pub effectAtOf : Device → List ℕ → Bool → ℕ → List ℕ → Effect
 effectAtOf d sram second quad old =
-    pick (ltb 3 (opOf d)) (effect false true second quad blankQuad)
+    pick (ltb rowProgram (opOf d)) (effect false true second quad blankQuad)
     (pick (isBlankOf old)
-    (pick (eqb (opOf d) 2) (effect false true second quad (d .nvmdata))
+    (pick (eqb (opOf d) quadProgram) (effect false true second quad (d .nvmdata))
     (pick (sourceFitsOf d (length sram)) (effect false true second quad (quadFrom sram (sourceWordOf d)))
     (effect true false second quad blankQuad)))
     (effect true false second quad blankQuad))

@@ -10,6 +10,10 @@ ghost use Rattle.device.specs.State.{lent};
 ghost use Rattle.map.specs.Windows.{windowBytesOf, located};
 ghost use Rattle.flash.specs.Effect.{Runs, stepLocationOf, blockedOf, sourceFitsOf, sourceWordOf, effect, effectAtOf, effectOf};
 use crate::write::Write;
+use device::numbers::LOWER_ERASE;
+use device::numbers::QUAD_PROGRAM;
+use device::numbers::ROW_PROGRAM;
+use device::numbers::UPPER_ERASE;
 use device::record::Device;
 use device::registers::Nvmcon;
 use geometry::banks::Geometry;
@@ -49,14 +53,14 @@ pub fn step_location(g: Geometry, d: Device) -> Location
 {
     let op = op(d);
     let step = d.step;
-    if op < 5 {
+    if op < LOWER_ERASE {
         let t = target(g, op, d.nvmaddr);
         return inside(t.program, t.upper, t.offset + 16 * step);
     }
-    if op == 5 {
+    if op == LOWER_ERASE {
         return inside(true, false, 16 * step);
     }
-    if op == 6 {
+    if op == UPPER_ERASE {
         return inside(true, true, 16 * step);
     }
     let region = 8 * g.q * g.p;
@@ -114,13 +118,13 @@ fn effect_at(d: Device, sram: &[u32], second: bool, quad: u32, old: [u32; 4]) ->
 {
     let blank = [0xFFFF_FFFF; 4];
     let op = op(d);
-    if 3 < op {
+    if ROW_PROGRAM < op {
         return doing(false, true, second, quad, blank);
     }
     if !is_blank(old) {
         return doing(true, false, second, quad, blank);
     }
-    if op == 2 {
+    if op == QUAD_PROGRAM {
         let data = d.nvmdata;
         return doing(false, true, second, quad, data);
     }

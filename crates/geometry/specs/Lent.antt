@@ -22,9 +22,13 @@ abbrev pub bankLengths : Geometry → List ℕ → Bool
 bankLengths g [] = true
 bankLengths g (words ∷ rest) = eqb words (bankWordsOf g) && bankLengths g rest
 
+-- "at most 16,384 words"
+abbrev pub mostSram : ℕ
+mostSram = 16384
+
 -- 2 does not apply: "A bank or image has another length than N×32×Q words, or the SRAM exceeds 16,384."
 unfoldable pub lengthsFitOf : Geometry → List ℕ → ℕ → Bool
-lengthsFitOf g lengths sram = bankLengths g lengths && leb sram 16384
+lengthsFitOf g lengths sram = bankLengths g lengths && leb sram mostSram
 
 -- declines 1 and 2, by the lengths of the banks and the image, and of the SRAM, which is 0 where none is lent
 unfoldable pub lentDeclineOf : Geometry → List ℕ → ℕ → Decline

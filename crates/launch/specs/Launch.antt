@@ -10,6 +10,7 @@ use Rattle.launch.specs.declared.launch.Launched.{Launched}
 use Rattle.device.specs.Registers.{WR, WRERR, LVDERR}
 use Rattle.device.specs.Record.{opOf}
 use Rattle.nvmop.specs.Operation.{beginsOf}
+use Rattle.device.specs.Numbers.{noOperation, quadProgram, bothErase}
 
 abbrev pub launched : ℕ → Bool → Launched
 launched nvmcon event = record { nvmcon = nvmcon; event = event }
@@ -18,8 +19,8 @@ launched nvmcon event = record { nvmcon = nvmcon; event = event }
 -- event."; then "failure, meaning WRERR = 1, WR = 0, event", or "Otherwise WR = 1, WRERR = 1, and steps begin."
 unfoldable pub launchOf : Geometry → Device → Launched
 launchOf g d =
-    pick (eqb (opOf d) 0) (launched (clearOf (d .nvmcon .0) (WRERR + LVDERR)) false)
+    pick (eqb (opOf d) noOperation) (launched (clearOf (d .nvmcon .0) (WRERR + LVDERR)) false)
     (pick (hasOf (d .nvmcon .0) (WRERR + LVDERR)) (launched (d .nvmcon .0) false)
-    (pick (ltb (opOf d) 2 || ltb 7 (opOf d)) (launched (d .nvmcon .0) false)
+    (pick (ltb (opOf d) quadProgram || ltb bothErase (opOf d)) (launched (d .nvmcon .0) false)
     (pick (beginsOf g d) (launched (bitOr (d .nvmcon .0) (WR + WRERR)) false)
     (launched (bitOr (d .nvmcon .0) WRERR) true))))

@@ -3,6 +3,9 @@
 ghost use mathlib.Core.Path.{_≡_};
 ghost use Rattle.geometry.specs.Banks.{InRange};
 ghost use Rattle.launch.specs.Launch.{launchOf};
+use device::numbers::BOTH_ERASE;
+use device::numbers::NO_OPERATION;
+use device::numbers::QUAD_PROGRAM;
 use device::record::Device;
 use device::registers::Nvmcon;
 use geometry::banks::Geometry;
@@ -24,7 +27,7 @@ pub fn launch(g: Geometry, d: Device) -> Launched
 {
     let con = d.nvmcon.0;
     let op = op(d);
-    if op == 0 {
+    if op == NO_OPERATION {
         return Launched {
             nvmcon: clear(con, Nvmcon::WRERR + Nvmcon::LVDERR),
             event: false,
@@ -36,13 +39,13 @@ pub fn launch(g: Geometry, d: Device) -> Launched
             event: false,
         };
     }
-    if op < 2 {
+    if op < QUAD_PROGRAM {
         return Launched {
             nvmcon: con,
             event: false,
         };
     }
-    if 7 < op {
+    if BOTH_ERASE < op {
         return Launched {
             nvmcon: con,
             event: false,

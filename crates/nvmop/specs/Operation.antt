@@ -10,10 +10,11 @@ use Rattle.map.specs.Windows.{locateOf, pageOf}
 use Rattle.device.specs.declared.record.Device.{Device}
 use Rattle.device.specs.Record.{opOf}
 use Rattle.protection.specs.Protection.{pwpOf, programProtectedOf, pageOffsetOf, anyProtectedOf}
+use Rattle.device.specs.Numbers.{quadProgram, rowProgram, pageErase, lowerErase, upperErase, bothErase}
 
 -- "NVMOP 2 quad, 3 row, 4 page erase: NVMADDR is rounded down to 16, 16×Q or 128×Q bytes."
 unfoldable pub unitOf : Geometry → ℕ → ℕ
-unitOf g op = pick (eqb op 2) 16 (pick (eqb op 3) (rowBytesOf g) (pageBytesOf g))
+unitOf g op = pick (eqb op quadProgram) 16 (pick (eqb op rowProgram) (rowBytesOf g) (pageBytesOf g))
 
 unfoldable pub targetOf : Geometry → ℕ → ℕ → Location
 targetOf g op address = locateOf g (roundDownOf address (unitOf g op))
@@ -32,11 +33,11 @@ regionBeginsOf g pwp upper = not (anyProtectedOf g pwp upper (g .p))
 -- "7 both: failure if PWP is not 0." NVMOP 0, 1 and 8 to 15 begin no steps.
 unfoldable pub beginsAtOf : Geometry → ℕ → ℕ → ℕ → Bool
 beginsAtOf g op address pwp =
-    pick (ltb op 2) false
-    (pick (ltb op 5) (targetBeginsOf g pwp (targetOf g op address))
-    (pick (eqb op 5) (regionBeginsOf g pwp false)
-    (pick (eqb op 6) (regionBeginsOf g pwp true)
-    (pick (eqb op 7) (eqb pwp 0)
+    pick (ltb op quadProgram) false
+    (pick (ltb op lowerErase) (targetBeginsOf g pwp (targetOf g op address))
+    (pick (eqb op lowerErase) (regionBeginsOf g pwp false)
+    (pick (eqb op upperErase) (regionBeginsOf g pwp true)
+    (pick (eqb op bothErase) (eqb pwp 0)
     false))))
 
 abbrev pub beginsOf : Geometry → Device → Bool
@@ -45,8 +46,8 @@ beginsOf g d = beginsAtOf g (opOf d) (d .nvmaddr) (pwpOf d)
 -- "1 for a quad, Q for a row, 8×Q for a page, 8×Q×P for a region", twice that for NVMOP 7
 unfoldable pub lengthOf : Geometry → ℕ → ℕ
 lengthOf g op =
-    pick (eqb op 2) 1
-    (pick (eqb op 3) (g .q)
-    (pick (eqb op 4) (8 * g .q)
-    (pick (eqb op 7) (2 * (8 * g .q * g .p))
+    pick (eqb op quadProgram) 1
+    (pick (eqb op rowProgram) (g .q)
+    (pick (eqb op pageErase) (8 * g .q)
+    (pick (eqb op bothErase) (2 * (8 * g .q * g .p))
     (8 * g .q * g .p))))

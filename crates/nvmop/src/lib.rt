@@ -4,6 +4,12 @@ ghost use mathlib.Core.Path.{_≡_};
 ghost use Rattle.geometry.specs.Banks.{InRange};
 ghost use Rattle.device.specs.Record.{opOf};
 ghost use Rattle.nvmop.specs.Operation.{unitOf, targetOf, targetBeginsOf, regionBeginsOf, beginsAtOf, beginsOf, lengthOf};
+use device::numbers::BOTH_ERASE;
+use device::numbers::LOWER_ERASE;
+use device::numbers::PAGE_ERASE;
+use device::numbers::QUAD_PROGRAM;
+use device::numbers::ROW_PROGRAM;
+use device::numbers::UPPER_ERASE;
 use device::record::Device;
 use geometry::banks::Geometry;
 use geometry::banks::page_bytes;
@@ -27,10 +33,10 @@ pub fn unit(g: Geometry, op: u32) -> u32
     requires { ⌜ InRange g ⌝ }
     ensures { λ r. ⌜ r ≡ unitOf g op ⌝ }
 {
-    if op == 2 {
+    if op == QUAD_PROGRAM {
         return 16;
     }
-    if op == 3 {
+    if op == ROW_PROGRAM {
         return row_bytes(g);
     }
     page_bytes(g)
@@ -71,19 +77,19 @@ fn begins_at(g: Geometry, op: u32, address: u32, last: u32) -> bool
     requires { ⌜ InRange g ⌝ }
     ensures { λ r. ⌜ r ≡ beginsAtOf g op address last ⌝ }
 {
-    if op < 2 {
+    if op < QUAD_PROGRAM {
         return false;
     }
-    if op < 5 {
+    if op < LOWER_ERASE {
         return target_begins(g, op, address, last);
     }
-    if op == 5 {
+    if op == LOWER_ERASE {
         return region_begins(g, last, false);
     }
-    if op == 6 {
+    if op == UPPER_ERASE {
         return region_begins(g, last, true);
     }
-    if op == 7 {
+    if op == BOTH_ERASE {
         return last == 0;
     }
     false
@@ -102,16 +108,16 @@ pub fn length(g: Geometry, op: u32) -> u32
     requires { ⌜ InRange g ⌝ }
     ensures { λ r. ⌜ r ≡ lengthOf g op ⌝ }
 {
-    if op == 2 {
+    if op == QUAD_PROGRAM {
         return 1;
     }
-    if op == 3 {
+    if op == ROW_PROGRAM {
         return g.q;
     }
-    if op == 4 {
+    if op == PAGE_ERASE {
         return 8 * g.q;
     }
-    if op == 7 {
+    if op == BOTH_ERASE {
         return 2 * (8 * g.q * g.p);
     }
     8 * g.q * g.p

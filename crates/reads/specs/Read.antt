@@ -17,6 +17,7 @@ use Rattle.device.specs.Record.{running, bfswap, pfswap, opOf}
 use Rattle.common_declines.specs.CommonDecline.{commonDeclineOf}
 use Rattle.reads.specs.declared.FlashRead.{FlashRead}
 use Rattle.flash.specs.Effect.{stepLocationOf}
+use Rattle.device.specs.Numbers.{bothErase}
 
 -- the bank that stands at a place, by the device's swap bits: whether it is bank 2
 abbrev pub secondAtOf : Device → Location → Bool
@@ -28,7 +29,7 @@ same a b = pick a b (not b)
 -- 9 does not apply: not "a bank that the running operation targets (NVMOP 7: both)"
 unfoldable pub freeOf : Geometry → Device → Bool → Bool
 freeOf g d second =
-    pick (running d) (pick (eqb (opOf d) 7) false (not (same (secondAtOf d (stepLocationOf g d)) second))) true
+    pick (running d) (pick (eqb (opOf d) bothErase) false (not (same (secondAtOf d (stepLocationOf g d)) second))) true
 
 -- 8 does not apply: not "outside the four windows or not on a multiple of 4"
 abbrev pub readableOf : Geometry → ℕ → Bool

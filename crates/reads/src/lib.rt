@@ -8,6 +8,7 @@ ghost use Rattle.device.specs.State.{lent};
 ghost use Rattle.common_declines.specs.Possible.{possibleOf};
 ghost use Rattle.reads.specs.Read.{secondAtOf, freeOf, readableOf, flashReadDeclineOf, wordReadOf, flashReadOf};
 use common_declines::common_decline::common_decline;
+use device::numbers::BOTH_ERASE;
 use device::record::Device;
 use device::registers::Nvmcon;
 use flash::effect::step_location;
@@ -45,7 +46,7 @@ fn is_free(g: Geometry, d: Device, second: bool) -> bool
     if !has(d.nvmcon.0, Nvmcon::WR) {
         return true;
     }
-    if op(d) == 7 {
+    if op(d) == BOTH_ERASE {
         return false;
     }
     second_at(d, step_location(g, d)) != second

@@ -16,10 +16,11 @@ use Rattle.device.specs.Record.{registerOf, running}
 use Rattle.common_declines.specs.CommonDecline.{commonDeclineOf}
 use Rattle.register_fields.specs.Fields.{wantedOf, keyNextOf, pwpTakesOf, bwpTakesOf, con2TakesOf}
 use Rattle.launch.specs.ConStore.{conStoreOf}
+use Rattle.device.specs.Numbers.{NVMCON, NVMKEY, NVMADDR, NVMDATA0, NVMDATA1, NVMDATA2, NVMDATA3, NVMSRCADDR, NVMPWP, NVMBWP, NVMCON2, plain, invert}
 
 -- 4 does not apply: "A register number above 10, a form above 3, or a form other than 0 for NVMKEY."
 unfoldable pub hasFormOf : ℕ → ℕ → Bool
-hasFormOf r form = pick (ltb 10 r) false (pick (ltb 3 form) false (pick (eqb r 1) (eqb form 0) true))
+hasFormOf r form = pick (ltb NVMCON2 r) false (pick (ltb invert form) false (pick (eqb r NVMKEY) (eqb form plain) true))
 
 -- declines 1, 3, 4 and 5
 unfoldable pub storeDeclineOf : Geometry → Device → ℕ → ℕ → Decline
@@ -31,20 +32,20 @@ storeDeclineOf g d r form =
 
 abbrev pub dataAfter : List ℕ → ℕ → ℕ → List ℕ
 dataAfter quad r w =
-    pick (eqb r 3) (set quad 0 w) (pick (eqb r 4) (set quad 1 w) (pick (eqb r 5) (set quad 2 w) (pick (eqb r 6) (set quad 3 w) quad)))
+    pick (eqb r NVMDATA0) (set quad 0 w) (pick (eqb r NVMDATA1) (set quad 1 w) (pick (eqb r NVMDATA2) (set quad 2 w) (pick (eqb r NVMDATA3) (set quad 3 w) quad)))
 
 -- the device after a store to another register than NVMCON: "each field takes it if its condition holds on the state before
 -- the store, and else stays"; a key store moves the key step, "Any other accepted store sets it to 0 afterwards"
 unfoldable pub appliedOf : Device → ℕ → ℕ → Device
 appliedOf d r w =
     withStored d
-    (pick (eqb r 2) w (d .nvmaddr))
+    (pick (eqb r NVMADDR) w (d .nvmaddr))
     (dataAfter (d .nvmdata) r w)
-    (pick (eqb r 7) w (d .nvmsrcaddr))
-    (pick (eqb r 8) (mergeOf (pwpTakesOf d) w (d .nvmpwp .0)) (d .nvmpwp .0))
-    (pick (eqb r 9) (mergeOf (bwpTakesOf d) w (d .nvmbwp .0)) (d .nvmbwp .0))
-    (pick (eqb r 10) (mergeOf (con2TakesOf d) w (d .nvmcon2 .0)) (d .nvmcon2 .0))
-    (pick (eqb r 1) (keyNextOf (d .keystep) w) 0)
+    (pick (eqb r NVMSRCADDR) w (d .nvmsrcaddr))
+    (pick (eqb r NVMPWP) (mergeOf (pwpTakesOf d) w (d .nvmpwp .0)) (d .nvmpwp .0))
+    (pick (eqb r NVMBWP) (mergeOf (bwpTakesOf d) w (d .nvmbwp .0)) (d .nvmbwp .0))
+    (pick (eqb r NVMCON2) (mergeOf (con2TakesOf d) w (d .nvmcon2 .0)) (d .nvmcon2 .0))
+    (pick (eqb r NVMKEY) (keyNextOf (d .keystep) w) 0)
 
 abbrev pub accepted : Device → Bool → Answer
 accepted d event = record { decline = Decline.Accepted; device = d; event = event }
@@ -52,7 +53,7 @@ accepted d event = record { decline = Decline.Accepted; device = d; event = even
 -- a store of the wanted value w that is not declined
 abbrev pub storeWanted : Geometry → Device → ℕ → ℕ → Answer
 storeWanted g d r w =
-    pick (eqb r 0) (accepted (withCon d (conStoreOf g d w .nvmcon) 0 (d .step)) (conStoreOf g d w .event))
+    pick (eqb r NVMCON) (accepted (withCon d (conStoreOf g d w .nvmcon) 0 (d .step)) (conStoreOf g d w .event))
     (accepted (appliedOf d r w) false)
 
 unfoldable pub storeAcceptedOf : Geometry → Device → ℕ → ℕ → ℕ → Answer
@@ -66,7 +67,7 @@ storeOf g d r form value =
 
 -- declines 1, 3 and 4
 unfoldable pub readDeclineOf : Geometry → Device → ℕ → Decline
-readDeclineOf g d r = firstOf (commonDeclineOf g d [] 0) (pick (ltb 10 r) Decline.Register Decline.Accepted)
+readDeclineOf g d r = firstOf (commonDeclineOf g d [] 0) (pick (ltb NVMCON2 r) Decline.Register Decline.Accepted)
 
 -- "any register read, sets it to 0 afterwards"
 unfoldable pub registerReadOf : Geometry → Device → ℕ → RegisterRead

@@ -5,8 +5,17 @@ ghost use Rattle.register_access.specs.Store.{hasFormOf, storeDeclineOf,
 use common_declines::common_decline::common_decline;
 use device::answer::Answer;
 use device::builders::with_con;
+use device::numbers::INVERT;
+use device::numbers::PLAIN;
 use device::record::Device;
 use device::record::register;
+use device::registers::NVMADDR;
+use device::registers::NVMDATA0;
+use device::registers::NVMDATA1;
+use device::registers::NVMDATA2;
+use device::registers::NVMDATA3;
+use device::registers::NVMKEY;
+use device::registers::NVMSRCADDR;
 use device::registers::Nvmbwp;
 use device::registers::Nvmcon;
 use device::registers::Nvmcon2;
@@ -34,14 +43,14 @@ pub struct RegisterRead {
 fn has_form(number: u32, form: u32) -> bool
     ensures { λ r. ⌜ r ≡ hasFormOf number form ⌝ }
 {
-    if 10 < number {
+    if Nvmcon2::NUMBER < number {
         return false;
     }
-    if 3 < form {
+    if INVERT < form {
         return false;
     }
-    if number == 1 {
-        return form == 0;
+    if number == NVMKEY {
+        return form == PLAIN;
     }
     true
 }
@@ -69,22 +78,22 @@ fn applied(d: Device, number: u32, w: u32) -> Device
     let mut e = d;
     e.keystep = 0;
     match number {
-        1 => e.keystep = key_next(d.keystep, w),
-        2 => e.nvmaddr = w,
-        3 => e.nvmdata[0] = w,
-        4 => e.nvmdata[1] = w,
-        5 => e.nvmdata[2] = w,
-        6 => e.nvmdata[3] = w,
-        7 => e.nvmsrcaddr = w,
-        8 => {
+        NVMKEY => e.keystep = key_next(d.keystep, w),
+        NVMADDR => e.nvmaddr = w,
+        NVMDATA0 => e.nvmdata[0] = w,
+        NVMDATA1 => e.nvmdata[1] = w,
+        NVMDATA2 => e.nvmdata[2] = w,
+        NVMDATA3 => e.nvmdata[3] = w,
+        NVMSRCADDR => e.nvmsrcaddr = w,
+        Nvmpwp::NUMBER => {
             let nvmpwp = Nvmpwp::new(merge(pwp_takes(d), w, d.nvmpwp.0));
             e.nvmpwp = nvmpwp;
         }
-        9 => {
+        Nvmbwp::NUMBER => {
             let nvmbwp = Nvmbwp::new(merge(bwp_takes(d), w, d.nvmbwp.0));
             e.nvmbwp = nvmbwp;
         }
-        10 => {
+        Nvmcon2::NUMBER => {
             let nvmcon2 = Nvmcon2::new(merge(con2_takes(d), w, d.nvmcon2.0));
             e.nvmcon2 = nvmcon2;
         }
@@ -99,7 +108,7 @@ pub fn store_accepted(g: Geometry, d: Device, number: u32, form: u32, value: u32
     ensures { λ r. ⌜ r ≡ storeAcceptedOf g d number form value ⌝ }
 {
     let w = wanted(form, register(d, number), value);
-    if number == 0 {
+    if number == Nvmcon::NUMBER {
         let l = con_store(g, d, w);
         return Answer {
             decline: Decline::Accepted,
@@ -136,7 +145,7 @@ fn read_decline(g: Geometry, d: Device, number: u32) -> Decline
     if !decline.is_accepted() {
         return decline;
     }
-    if 10 < number {
+    if Nvmcon2::NUMBER < number {
         return Decline::Register;
     }
     Decline::Accepted

@@ -8,19 +8,20 @@ use Rattle.words.specs.Word.{pick, hasOf, clearOf}
 use Rattle.device.specs.declared.record.Device.{Device}
 use Rattle.device.specs.Record.{isOpen}
 use Rattle.device.specs.Registers.{WREN, PFSWAP, BFSWAP, NVMOP, PWPULOCK, PWP, LBWPULOCK, LBWP, UBWPULOCK, UBWP, NVMERS, NVMWS, NVMLPRD, NVMCRD, NVMVRD, NVMRETRY, SWAPLOCK}
+use Rattle.device.specs.Numbers.{plain, clear, set, key1, key2, key3}
 
 -- "A store has form 0 plain, 1 clear, 2 set or 3 invert"; "The form gives a wanted value"
 abbrev pub wantedOf : ℕ → ℕ → ℕ → ℕ
 wantedOf form old value =
-    pick (eqb form 0) value (pick (eqb form 1) (clearOf old value) (pick (eqb form 2) (bitOr old value) (bitXor old value)))
+    pick (eqb form plain) value (pick (eqb form clear) (clearOf old value) (pick (eqb form set) (bitOr old value) (bitXor old value)))
 
 -- "stores of 0, 0xAA996655, 0x556699AA to NVMKEY raise the key step to 1, 2, 3"; "out of turn sets it to 1 if its value is
 -- 0, else to 0"
 unfoldable pub keyNextOf : ℕ → ℕ → ℕ
 keyNextOf keystep value =
-    pick (eqb value 0) 1
-    (pick (eqb keystep 1 && eqb value 0xAA99_6655) 2
-    (pick (eqb keystep 2 && eqb value 0x5566_99AA) 3 0))
+    pick (eqb value key1) 1
+    (pick (eqb keystep 1 && eqb value key2) 2
+    (pick (eqb keystep 2 && eqb value key3) 3 0))
 
 -- "WREN: always. NVMOP: WREN = 0. PFSWAP, BFSWAP: WREN = 0, SWAPLOCK = 0, key open. WRERR and LVDERR: never."
 unfoldable pub conTakesOf : Device → ℕ

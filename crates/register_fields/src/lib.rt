@@ -1,6 +1,12 @@
 // What a store asks for, and which fields of a register take it: each condition is judged on the device before the store.
 ghost use mathlib.Core.Path.{_≡_};
 ghost use Rattle.register_fields.specs.Fields.{wantedOf, keyNextOf, conTakesOf, pwpTakesOf, lowerTakesOf, upperTakesOf, bwpTakesOf, keyedTakesOf, swaplockTakesOf, con2TakesOf};
+use device::numbers::CLEAR;
+use device::numbers::KEY1;
+use device::numbers::KEY2;
+use device::numbers::KEY3;
+use device::numbers::PLAIN;
+use device::numbers::SET;
 use device::record::Device;
 use device::registers::Nvmbwp;
 use device::registers::Nvmcon;
@@ -13,13 +19,13 @@ use words::word::has;
 pub fn wanted(form: u32, old: u32, value: u32) -> u32
     ensures { λ r. ⌜ r ≡ wantedOf form old value ⌝ }
 {
-    if form == 0 {
+    if form == PLAIN {
         return value;
     }
-    if form == 1 {
+    if form == CLEAR {
         return clear(old, value);
     }
-    if form == 2 {
+    if form == SET {
         return old | value;
     }
     old ^ value
@@ -29,17 +35,17 @@ pub fn wanted(form: u32, old: u32, value: u32) -> u32
 pub fn key_next(keystep: u32, value: u32) -> u32
     ensures { λ r. ⌜ r ≡ keyNextOf keystep value ⌝ }
 {
-    if value == 0 {
+    if value == KEY1 {
         return 1;
     }
     if keystep == 1 {
-        if value == 0xAA99_6655 {
+        if value == KEY2 {
             return 2;
         }
         return 0;
     }
     if keystep == 2 {
-        if value == 0x5566_99AA {
+        if value == KEY3 {
             return 3;
         }
         return 0;

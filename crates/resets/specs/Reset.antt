@@ -20,10 +20,21 @@ use Rattle.common_declines.specs.CommonDecline.{commonDeclineOf}
 use Rattle.flash.specs.declared.write.Write.{Write}
 use Rattle.flash.specs.Write.{writtenOf}
 use Rattle.flash.specs.Effect.{effectOf}
+use Rattle.device.specs.Numbers.{NVMCON, NVMPWP, NVMBWP, NVMCON2}
+
+-- "Kinds: 0 power-on, 1 brown-out, 2 other."
+abbrev pub powerOnReset : ℕ
+powerOnReset = 0
+
+abbrev pub brownOutReset : ℕ
+brownOutReset = 1
+
+abbrev pub otherReset : ℕ
+otherReset = 2
 
 -- declines 1, 2, 3 and 7
 unfoldable pub resetDeclineOf : Geometry → Device → ℕ → ℕ → ℕ → ℕ → Decline
-resetDeclineOf g d one two sram kind = firstOf (commonDeclineOf g d (one ∷ two ∷ []) sram) (pick (ltb 2 kind) Decline.ResetKind Decline.Accepted)
+resetDeclineOf g d one two sram kind = firstOf (commonDeclineOf g d (one ∷ two ∷ []) sram) (pick (ltb otherReset kind) Decline.ResetKind Decline.Accepted)
 
 -- "With WR = 1 a reset first tears the quad of the next step: the four words of the torn mask choose, bit by bit, intended (1) or old (0).
 -- A step that would abort or hit a protected page tears nothing."
@@ -46,16 +57,16 @@ comparedOf g one two = bfswapOf (wordAt one (sequenceIndexOf g)) (wordAt two (se
 -- NVMCON but for BFSWAP: "Kinds 1 and 2 clear WR, WREN, PFSWAP"; "Kind 1 with WR = 1 also sets LVDERR."
 unfoldable pub resetConOf : Device → ℕ → ℕ
 resetConOf d kind =
-    pick (eqb kind 0) (getD resets 0 0)
-    (pick (eqb kind 1 && running d) (bitOr (clearOf (d .nvmcon .0) (WR + WREN + PFSWAP + BFSWAP)) LVDERR)
+    pick (eqb kind powerOnReset) (getD resets NVMCON 0)
+    (pick (eqb kind brownOutReset && running d) (bitOr (clearOf (d .nvmcon .0) (WR + WREN + PFSWAP + BFSWAP)) LVDERR)
     (clearOf (d .nvmcon .0) (WR + WREN + PFSWAP + BFSWAP)))
 
 -- "power-on gives all reset values. Kinds 1 and 2 clear the key step and the step number, set NVMPWP, NVMBWP, NVMCON2 to
 -- reset values, and keep the rest and NVMERS." BFSWAP is set as compared
 unfoldable pub resetDeviceOf : Device → ℕ → Bool → Device
 resetDeviceOf d kind swap =
-    pick (eqb kind 0) (withCon powerOn (bitOr (resetConOf d kind) (pick swap BFSWAP 0)) 0 0)
-    (withCon (withStored d (d .nvmaddr) (d .nvmdata) (d .nvmsrcaddr) (getD resets 8 0) (getD resets 9 0) (mergeOf NVMERS (d .nvmcon2 .0) (getD resets 10 0)) 0)
+    pick (eqb kind powerOnReset) (withCon powerOn (bitOr (resetConOf d kind) (pick swap BFSWAP 0)) 0 0)
+    (withCon (withStored d (d .nvmaddr) (d .nvmdata) (d .nvmsrcaddr) (getD resets NVMPWP 0) (getD resets NVMBWP 0) (mergeOf NVMERS (d .nvmcon2 .0) (getD resets NVMCON2 0)) 0)
     (bitOr (resetConOf d kind) (pick swap BFSWAP 0)) 0 0)
 
 -- "BFSWAP is compared after the tear. A reset gives no event."

@@ -34,6 +34,13 @@ use words::word::clear;
 use words::word::has;
 use words::word::merge;
 
+// Kinds of reset.
+pub const POWER_ON_RESET: u32 = 0;
+
+pub const BROWN_OUT_RESET: u32 = 1;
+
+pub const OTHER_RESET: u32 = 2;
+
 // The answer to a reset. Where it is declined the device and the banks are as before.
 pub struct Restarted {
     pub decline: Decline,
@@ -47,7 +54,7 @@ fn reset_decline(g: Geometry, d: Device, one: usize, two: usize, sram: usize, ki
     if !decline.is_accepted() {
         return decline;
     }
-    if 2 < kind {
+    if OTHER_RESET < kind {
         return Decline::ResetKind;
     }
     Decline::Accepted
@@ -104,14 +111,14 @@ pub fn compared(g: Geometry, one: &[u32], two: &[u32]) -> bool
 fn reset_con(d: Device, kind: u32) -> u32
     ensures { λ r. ⌜ r ≡ resetConOf d kind ⌝ }
 {
-    if kind == 0 {
-        return reset_value(0);
+    if kind == POWER_ON_RESET {
+        return reset_value(Nvmcon::NUMBER);
     }
     let kept = clear(
         d.nvmcon.0,
         Nvmcon::WR + Nvmcon::WREN + Nvmcon::PFSWAP + Nvmcon::BFSWAP,
     );
-    if kind != 1 {
+    if kind != BROWN_OUT_RESET {
         return kept;
     }
     if has(d.nvmcon.0, Nvmcon::WR) {
@@ -134,13 +141,13 @@ fn reset_device(d: Device, kind: u32, swap: bool) -> Device
     ensures { λ r. ⌜ r ≡ resetDeviceOf d kind swap ⌝ }
 {
     let con = swapped(reset_con(d, kind), swap);
-    if kind == 0 {
+    if kind == POWER_ON_RESET {
         return with_con(power_on(), con, 0, 0);
     }
     let mut e = d;
-    let nvmpwp = Nvmpwp::new(reset_value(8));
-    let nvmbwp = Nvmbwp::new(reset_value(9));
-    let nvmcon2 = Nvmcon2::new(merge(Nvmcon2::NVMERS, d.nvmcon2.0, reset_value(10)));
+    let nvmpwp = Nvmpwp::new(reset_value(Nvmpwp::NUMBER));
+    let nvmbwp = Nvmbwp::new(reset_value(Nvmbwp::NUMBER));
+    let nvmcon2 = Nvmcon2::new(merge(Nvmcon2::NVMERS, d.nvmcon2.0, reset_value(Nvmcon2::NUMBER)));
     e.nvmpwp = nvmpwp;
     e.nvmbwp = nvmbwp;
     e.nvmcon2 = nvmcon2;

@@ -10,6 +10,8 @@ use Rattle.start_up.specs.declared.StartedUp.{StartedUp}
 use Rattle.device.specs.Record.{running, bfswap}
 use Rattle.common_declines.specs.CommonDecline.{commonDeclineOf}
 use Rattle.register_access.specs.Store.{storeOf}
+use Rattle.device.specs.Numbers.{NVMCON, NVMKEY, NVMCON2, plain, set, key1, key2, key3}
+use Rattle.device.specs.Registers.{PFSWAP, SWAPLOCK}
 
 -- a store by its register, form and value
 pub record Access : Type 0 where
@@ -27,21 +29,21 @@ storesOf g d (a ∷ rest) = storesOf g (storeOf g d (a .register) (a .form) (a .
 
 -- "the three key stores"
 abbrev pub keyStores : List Access
-keyStores = access 1 0 0 ∷ access 1 0 0xAA99_6655 ∷ access 1 0 0x5566_99AA ∷ []
+keyStores = access NVMKEY plain key1 ∷ access NVMKEY plain key2 ∷ access NVMKEY plain key3 ∷ []
 
 abbrev pub unlockedOf : Geometry → Device → Device
 unlockedOf g d = storesOf g d keyStores
 
 -- "if BFSWAP = 1, the three key stores and NVMCON set 0x80"
 abbrev pub swapStores : Device → List Access
-swapStores d = pick (bfswap d) (keyStores ++ access 0 2 0x80 ∷ []) []
+swapStores d = pick (bfswap d) (keyStores ++ access NVMCON set PFSWAP ∷ []) []
 
 abbrev pub swappedOf : Geometry → Device → Device
 swappedOf g d = storesOf g d (swapStores d)
 
 -- "always then NVMCON2 set 0xC0". BFSWAP is judged once, at the beginning; a prefix of this list is a start-up that was cut
 unfoldable pub startUpStores : Device → List Access
-startUpStores d = swapStores d ++ access 10 2 0xC0 ∷ []
+startUpStores d = swapStores d ++ access NVMCON2 set SWAPLOCK ∷ []
 
 -- declines 1, 3 and 5
 unfoldable pub startUpDeclineOf : Geometry → Device → Decline

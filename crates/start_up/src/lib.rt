@@ -2,6 +2,11 @@
 ghost use mathlib.Core.Path.{_≡_};
 ghost use Rattle.start_up.specs.StartUp.{startUpDeclineOf, unlockedOf, swappedOf, startUpOf};
 use common_declines::common_decline::common_decline;
+use device::numbers::KEY1;
+use device::numbers::KEY2;
+use device::numbers::KEY3;
+use device::numbers::PLAIN;
+use device::numbers::SET;
 use device::record::Device;
 use device::registers::NVMKEY;
 use device::registers::Nvmcon;
@@ -35,9 +40,9 @@ fn start_up_decline(g: Geometry, d: Device) -> Decline
 pub fn unlocked(g: Geometry, d: Device) -> Device
     ensures { λ r. ⌜ r ≡ unlockedOf g d ⌝ }
 {
-    let first = store(g, d, NVMKEY, 0, 0);
-    let second = store(g, first.device, NVMKEY, 0, 0xAA99_6655);
-    let third = store(g, second.device, NVMKEY, 0, 0x5566_99AA);
+    let first = store(g, d, NVMKEY, PLAIN, KEY1);
+    let second = store(g, first.device, NVMKEY, PLAIN, KEY2);
+    let third = store(g, second.device, NVMKEY, PLAIN, KEY3);
     third.device
 }
 
@@ -47,7 +52,7 @@ fn swapped(g: Geometry, d: Device) -> Device
 {
     if has(d.nvmcon.0, Nvmcon::BFSWAP) {
         let e = unlocked(g, d);
-        let s = store(g, e, Nvmcon::NUMBER, 2, Nvmcon::PFSWAP);
+        let s = store(g, e, Nvmcon::NUMBER, SET, Nvmcon::PFSWAP);
         return s.device;
     }
     d
@@ -60,7 +65,7 @@ pub fn start_up(g: Geometry, d: Device) -> StartedUp
     let decline = start_up_decline(g, d);
     if decline.is_accepted() {
         let e = swapped(g, d);
-        let s = store(g, e, Nvmcon2::NUMBER, 2, Nvmcon2::SWAPLOCK);
+        let s = store(g, e, Nvmcon2::NUMBER, SET, Nvmcon2::SWAPLOCK);
         let device = s.device;
         return StartedUp { decline, device };
     }

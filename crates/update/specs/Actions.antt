@@ -12,6 +12,8 @@ use Rattle.sequence.specs.Sequence.{sequenceQuadOf, nextSequenceOf}
 use Rattle.start_up.specs.StartUp.{Access, access, keyStores}
 use Rattle.update.specs.declared.actions.Action.{Action}
 use Rattle.update.specs.declared.actions.Action.the-variants.{Store, Step}
+use Rattle.device.specs.Numbers.{NVMCON, NVMADDR, NVMDATA0, NVMDATA1, NVMDATA2, NVMDATA3, NVMBWP, plain, clear, set, quadProgram, pageErase}
+use Rattle.device.specs.Registers.{WR, WREN, UBWP}
 
 -- stores as actions
 abbrev pub stored : List Access → List Action
@@ -25,11 +27,11 @@ blocks (suc n) f = blocks n f ++ f n
 
 -- "NVMCON clear 0x4000; NVMCON plain 0; set 0x4000; three keys; set 0x8000"
 abbrev pub clearingStores : List Access
-clearingStores = access 0 1 0x4000 ∷ access 0 0 0 ∷ access 0 2 0x4000 ∷ (keyStores ++ (access 0 2 0x8000 ∷ []))
+clearingStores = access NVMCON clear WREN ∷ access NVMCON plain 0 ∷ access NVMCON set WREN ∷ (keyStores ++ (access NVMCON set WR ∷ []))
 
 -- "clear 0x4000; three keys; NVMBWP clear 0x1F."
 abbrev pub unprotectingStores : List Access
-unprotectingStores = access 0 1 0x4000 ∷ (keyStores ++ (access 9 1 0x1F ∷ []))
+unprotectingStores = access NVMCON clear WREN ∷ (keyStores ++ (access NVMBWP clear UBWP ∷ []))
 
 -- "12 actions."
 abbrev pub prologue : List Action
@@ -41,15 +43,15 @@ upperAddressOf g j = pick (ltb j (bootQuadsOf g)) (upperBoot + 16 * j) (upperPro
 
 -- "NVMCON plain 4, set 0x4000, keys, set 0x8000", with 2 in place of 4 for a quad
 abbrev pub launchStores : ℕ → List Access
-launchStores op = access 0 0 op ∷ access 0 2 0x4000 ∷ (keyStores ++ (access 0 2 0x8000 ∷ []))
+launchStores op = access NVMCON plain op ∷ access NVMCON set WREN ∷ (keyStores ++ (access NVMCON set WR ∷ []))
 
 -- "clear 0x4000"
 abbrev pub endStores : List Access
-endStores = access 0 1 0x4000 ∷ []
+endStores = access NVMCON clear WREN ∷ []
 
 -- "NVMADDR, NVMCON plain 4, set 0x4000, keys, set 0x8000, 8×Q steps, clear 0x4000": a page by its number in the bank
 abbrev pub pageStores : Geometry → ℕ → List Access
-pageStores g page = access 2 0 (upperAddressOf g (page * pageQuadsOf g)) ∷ launchStores 4
+pageStores g page = access NVMADDR plain (upperAddressOf g (page * pageQuadsOf g)) ∷ launchStores pageErase
 
 abbrev pub pageBlock : Geometry → ℕ → List Action
 pageBlock g page = stored (pageStores g page) ++ (replicate (pageQuadsOf g) Step ++ stored endStores)
@@ -58,12 +60,12 @@ pageBlock g page = stored (pageStores g page) ++ (replicate (pageQuadsOf g) Step
 -- words
 abbrev pub quadStores : Geometry → ℕ → List ℕ → List Access
 quadStores g j words =
-    access 2 0 (upperAddressOf g j)
-    ∷ access 3 0 (wordAt words 0)
-    ∷ access 4 0 (wordAt words 1)
-    ∷ access 5 0 (wordAt words 2)
-    ∷ access 6 0 (wordAt words 3)
-    ∷ launchStores 2
+    access NVMADDR plain (upperAddressOf g j)
+    ∷ access NVMDATA0 plain (wordAt words 0)
+    ∷ access NVMDATA1 plain (wordAt words 1)
+    ∷ access NVMDATA2 plain (wordAt words 2)
+    ∷ access NVMDATA3 plain (wordAt words 3)
+    ∷ launchStores quadProgram
 
 abbrev pub quadBlock : Geometry → ℕ → List ℕ → List Action
 quadBlock g j words = stored (quadStores g j words) ++ (Step ∷ stored endStores)
@@ -118,7 +120,7 @@ programmingFrom g = 12 + pagesOf g * pageActions g
 -- action k of a page's, and of a quad's
 unfoldable pub pageActionOf : Geometry → ℕ → ℕ → Action
 pageActionOf g page k =
-    pick (ltb k 7) (getD (stored (pageStores g page)) k Step) (pick (ltb k (7 + pageQuadsOf g)) Step (Store 0 1 0x4000))
+    pick (ltb k 7) (getD (stored (pageStores g page)) k Step) (pick (ltb k (7 + pageQuadsOf g)) Step (Store NVMCON clear WREN))
 
 unfoldable pub quadActionOf : Geometry → ℕ → List ℕ → ℕ → Action
 quadActionOf g j words k = getD (quadBlock g j words) k Step

@@ -9,6 +9,8 @@ use Rattle.geometry.specs.Banks.{bankWordsOf}
 use Rattle.device.specs.State.{State}
 use Rattle.update.specs.PowerFail.{afterTurns, placeAfter, Cut, restarted, Runs, Update}
 use Rattle.update.specs.Bench.{smallest, benchBank, benchState}
+use Rattle.geometry.specs.Lent.{mostSram}
+use Rattle.resets.specs.Reset.{otherReset}
 
 -- the bench with bank 1's sequence word 0xFFFE0001, and an image of all ones
 abbrev pub exampleState : State
@@ -27,5 +29,5 @@ pub record Example : Type 0 where
   -- "as many turns as the total reach it, so a run A exists": 252 turns
   pub reaches : placeAfter smallest exampleState exampleImage (emptySrams 252) ≡ 252
   -- "After A, whatever reset and then a completed start-up follow, the sign runs the new bank": bank 2 with the image and T = 2
-  pub new-runs : (c : Cut) → length (c .sram) ≤ 16384 → c .kind ≤ 2
+  pub new-runs : (c : Cut) → length (c .sram) ≤ mostSram → c .kind ≤ otherReset
       → Runs (restarted smallest (afterTurns smallest exampleState exampleImage (emptySrams 252)) c) true (benchBank 0xFFFD_0002)

@@ -11,12 +11,13 @@ use Rattle.geometry.specs.declared.banks.Geometry.{Geometry}
 use Rattle.sequence.specs.Sequence.{sequenceQuadOf, nextSequenceOf}
 use Rattle.device.specs.Record.{bfswap, pfswap}
 use Rattle.start_up.specs.StartUp.{startUpOf}
-use Rattle.resets.specs.Reset.{resetOf}
+use Rattle.resets.specs.Reset.{resetOf, otherReset}
 use Rattle.device.specs.State.{State, bankOf, state, After}
 use Rattle.controller.specs.Controller.{Keeps}
 use Rattle.update.specs.Actions.{totalOf}
 use Rattle.update.specs.Start.{lowerWordOf, startOf}
 use Rattle.update.specs.Turn.{turnOf, EveryTurn}
+use Rattle.geometry.specs.Lent.{mostSram}
 
 -- where a list of turns stands
 pub record Position : Type 0 where
@@ -114,7 +115,7 @@ pub record Claims (g : Geometry) (s : State) (image : List ℕ) (a b : State) : 
   pub again : (c : Cut) → Restarts g b c → let t = restarted g b c in
       Lower t (old s) → Update g t image × ((C : List (List ℕ)) → placeAfter g t image C ≡ totalOf g → SameBanks a (afterTurns g t image C))
   -- "With at most 16,384 words of SRAM none of these calls is declined": the resets and start-ups
-  pub restarts : (c : Cut) → length (c .sram) ≤ 16384 → c .kind ≤ 2 → Restarts g a c × Restarts g b c
+  pub restarts : (c : Cut) → length (c .sram) ≤ mostSram → c .kind ≤ otherReset → Restarts g a c × Restarts g b c
 
 pub record PowerFail (g : Geometry) (image : List ℕ) : Type 0 where
   -- "An accepted start .. gives place 0 and the total."
@@ -123,11 +124,11 @@ pub record PowerFail (g : Geometry) (image : List ℕ) : Type 0 where
   pub claims : (s : State) → Update g s image → (A B : List (List ℕ)) → placeAfter g s image A ≡ totalOf g
       → Claims g s image (afterTurns g s image A) (afterTurns g s image B)
   -- "With at most 16,384 words of SRAM none of these calls is declined": a turn after any list of turns; no place exceeds the total
-  pub answers : (s : State) → Update g s image → (srams : List (List ℕ)) (sram : List ℕ) → length sram ≤ 16384
+  pub answers : (s : State) → Update g s image → (srams : List (List ℕ)) (sram : List ℕ) → length sram ≤ mostSram
       → acceptedOf (turnOf g (afterTurns g s image srams) image sram (placeAfter g s image srams) .decline) ≡ true
   pub within : (s : State) → Update g s image → (srams : List (List ℕ)) → placeAfter g s image srams ≤ totalOf g
   -- "and as many turns as the total reach it, so a run A exists."
-  pub reaches : (s : State) → Update g s image → (srams : List (List ℕ)) → ((i : ℕ) → length (getD srams i []) ≤ 16384)
+  pub reaches : (s : State) → Update g s image → (srams : List (List ℕ)) → ((i : ℕ) → length (getD srams i []) ≤ mostSram)
       → length srams ≡ totalOf g → placeAfter g s image srams ≡ totalOf g
   -- of any state: "a declined turn leaves what it got", and so do a reset and a start-up
   pub turns : (p : Position) (sram : List ℕ) → EveryTurn g (p .state) image sram (p .place)

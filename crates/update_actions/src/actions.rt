@@ -8,6 +8,17 @@ ghost use Rattle.update.specs.declared.actions.Action.the-variants.{Step};
 ghost use Rattle.update.specs.Actions.{prologue, stored, launchStores, erasedPageOf, totalOf, pageActionOf, actionAtOf};
 use crate::programming::quad_action;
 use crate::programming::upper_address;
+use device::numbers::CLEAR;
+use device::numbers::KEY1;
+use device::numbers::KEY2;
+use device::numbers::KEY3;
+use device::numbers::PAGE_ERASE;
+use device::numbers::PLAIN;
+use device::numbers::SET;
+use device::registers::NVMADDR;
+use device::registers::NVMKEY;
+use device::registers::Nvmbwp;
+use device::registers::Nvmcon;
 use geometry::banks::Geometry;
 use geometry::banks::page_quads;
 use geometry::banks::pages;
@@ -27,18 +38,18 @@ fn prologue_action(place: u32) -> Action
     ensures { λ r. ⌜ r ≡ getD prologue place Step ⌝ }
 {
     match place {
-        0 => Action::Store(0, 1, 0x4000),
-        1 => Action::Store(0, 0, 0),
-        2 => Action::Store(0, 2, 0x4000),
-        3 => Action::Store(1, 0, 0),
-        4 => Action::Store(1, 0, 0xAA99_6655),
-        5 => Action::Store(1, 0, 0x5566_99AA),
-        6 => Action::Store(0, 2, 0x8000),
-        7 => Action::Store(0, 1, 0x4000),
-        8 => Action::Store(1, 0, 0),
-        9 => Action::Store(1, 0, 0xAA99_6655),
-        10 => Action::Store(1, 0, 0x5566_99AA),
-        _ => Action::Store(9, 1, 0x1F),
+        0 => Action::Store(Nvmcon::NUMBER, CLEAR, Nvmcon::WREN),
+        1 => Action::Store(Nvmcon::NUMBER, PLAIN, 0),
+        2 => Action::Store(Nvmcon::NUMBER, SET, Nvmcon::WREN),
+        3 => Action::Store(NVMKEY, PLAIN, KEY1),
+        4 => Action::Store(NVMKEY, PLAIN, KEY2),
+        5 => Action::Store(NVMKEY, PLAIN, KEY3),
+        6 => Action::Store(Nvmcon::NUMBER, SET, Nvmcon::WR),
+        7 => Action::Store(Nvmcon::NUMBER, CLEAR, Nvmcon::WREN),
+        8 => Action::Store(NVMKEY, PLAIN, KEY1),
+        9 => Action::Store(NVMKEY, PLAIN, KEY2),
+        10 => Action::Store(NVMKEY, PLAIN, KEY3),
+        _ => Action::Store(Nvmbwp::NUMBER, CLEAR, Nvmbwp::UBWP),
     }
 }
 
@@ -48,12 +59,12 @@ pub fn launch_action(op: u32, k: u32) -> Action
     ensures { λ r. ⌜ r ≡ getD (stored (launchStores op)) k Step ⌝ }
 {
     match k {
-        0 => Action::Store(0, 0, op),
-        1 => Action::Store(0, 2, 0x4000),
-        2 => Action::Store(1, 0, 0),
-        3 => Action::Store(1, 0, 0xAA99_6655),
-        4 => Action::Store(1, 0, 0x5566_99AA),
-        _ => Action::Store(0, 2, 0x8000),
+        0 => Action::Store(Nvmcon::NUMBER, PLAIN, op),
+        1 => Action::Store(Nvmcon::NUMBER, SET, Nvmcon::WREN),
+        2 => Action::Store(NVMKEY, PLAIN, KEY1),
+        3 => Action::Store(NVMKEY, PLAIN, KEY2),
+        4 => Action::Store(NVMKEY, PLAIN, KEY3),
+        _ => Action::Store(Nvmcon::NUMBER, SET, Nvmcon::WR),
     }
 }
 
@@ -78,15 +89,15 @@ fn page_action(g: Geometry, page: u32, k: u32) -> Action
     ensures { λ r. ⌜ r ≡ pageActionOf g page k ⌝ }
 {
     if k == 0 {
-        return Action::Store(2, 0, upper_address(g, page * page_quads(g)));
+        return Action::Store(NVMADDR, PLAIN, upper_address(g, page * page_quads(g)));
     }
     if k < 7 {
-        return launch_action(4, k - 1);
+        return launch_action(PAGE_ERASE, k - 1);
     }
     if k < 7 + page_quads(g) {
         return Action::Step;
     }
-    Action::Store(0, 1, 0x4000)
+    Action::Store(Nvmcon::NUMBER, CLEAR, Nvmcon::WREN)
 }
 
 // The action of a place.

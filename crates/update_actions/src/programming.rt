@@ -6,10 +6,21 @@ ghost use lib.ListN.{length};
 ghost use Rattle.geometry.specs.Banks.{InRange, bankWordsOf};
 ghost use Rattle.update.specs.Actions.{upperAddressOf, programmedQuadOf, newQuadOf, bankQuadsOf, quadActionOf};
 use crate::actions::launch_action;
+use device::numbers::CLEAR;
+use device::numbers::PLAIN;
+use device::numbers::QUAD_PROGRAM;
+use device::registers::NVMADDR;
+use device::registers::NVMDATA0;
+use device::registers::NVMDATA1;
+use device::registers::NVMDATA2;
+use device::registers::NVMDATA3;
+use device::registers::Nvmcon;
 use geometry::banks::Geometry;
 use geometry::banks::boot_quads;
 use geometry::banks::page_quads;
 use geometry::banks::program_bytes;
+use map::LOWER_PROGRAM;
+use map::UPPER_BOOT;
 use sequence::next_sequence;
 use sequence::sequence_quad;
 use update::actions::Action;
@@ -22,9 +33,9 @@ pub fn upper_address(g: Geometry, quad: u32) -> u32
     ensures { λ r. ⌜ r ≡ upperAddressOf g quad ⌝ }
 {
     if quad < boot_quads(g) {
-        return 0x1FC2_0000 + 16 * quad;
+        return UPPER_BOOT + 16 * quad;
     }
-    0x1D00_0000 + program_bytes(g) + 16 * (quad - boot_quads(g))
+    LOWER_PROGRAM + program_bytes(g) + 16 * (quad - boot_quads(g))
 }
 
 // Quad i of the programming, by its number in the bank.
@@ -64,13 +75,13 @@ pub fn quad_action(g: Geometry, image: &[u32], w: u32, i: u32, k: u32) -> Action
     let quad = programmed_quad(g, i);
     let words = new_quad(g, image, w, quad);
     match k {
-        0 => Action::Store(2, 0, upper_address(g, quad)),
-        1 => Action::Store(3, 0, words[0]),
-        2 => Action::Store(4, 0, words[1]),
-        3 => Action::Store(5, 0, words[2]),
-        4 => Action::Store(6, 0, words[3]),
+        0 => Action::Store(NVMADDR, PLAIN, upper_address(g, quad)),
+        1 => Action::Store(NVMDATA0, PLAIN, words[0]),
+        2 => Action::Store(NVMDATA1, PLAIN, words[1]),
+        3 => Action::Store(NVMDATA2, PLAIN, words[2]),
+        4 => Action::Store(NVMDATA3, PLAIN, words[3]),
         11 => Action::Step,
-        12 => Action::Store(0, 1, 0x4000),
-        _ => launch_action(2, k - 5),
+        12 => Action::Store(Nvmcon::NUMBER, CLEAR, Nvmcon::WREN),
+        _ => launch_action(QUAD_PROGRAM, k - 5),
     }
 }

@@ -3,6 +3,7 @@ ghost use mathlib.Core.Path.{_≡_};
 ghost use mathlib.Core.Bool.{true, false};
 ghost use Prim.Native.Nat.{_+_, _≤_, _<_};
 ghost use lib.ListN.{length};
+ghost use Rattle.geometry.specs.Lent.{mostSram};
 ghost use Rattle.geometry.specs.Banks.{inRangeOf, bankWordsOf};
 ghost use Rattle.device.specs.State.{lent};
 ghost use Rattle.common_declines.specs.Possible.{possibleOf};
@@ -79,7 +80,7 @@ fn act(
     requires { ⌜ inRangeOf g ≡ true ⌝ }
     requires { ⌜ possibleOf g d ≡ true ⌝ }
     requires { ⌜ (length (now one) ≡ bankWordsOf g) × (length (now two) ≡ bankWordsOf g) ⌝ }
-    requires { ⌜ length (now sram) ≤ 16384 ⌝ }
+    requires { ⌜ length (now sram) ≤ mostSram ⌝ }
     requires { ⌜ Formed action ⌝ }
     requires { ⌜ place < 1000000 ⌝ }
     ensures { λ r. ⌜ effectedOf (lent d (one .entry) (two .entry)) r ≡ actOf g (lent d (one .entry) (two .entry)) (now (sram .entry)) place action ⌝ }
