@@ -27,7 +27,7 @@ use Rattle.device.specs.Record.{opOf, bfswap, pfswap}
 use Rattle.protection.specs.Protection.{pwpOf, programProtectedOf, pageOffsetOf, bootProtectedOf, protectedOf, anyProtectedOf}
 use Rattle.nvmop.specs.Operation.{unitOf, targetOf, targetBeginsOf, regionBeginsOf, beginsAtOf, lengthOf}
 use Rattle.flash.specs.Effect.{Runs, stepAtOf, stepLocationOf, blockedOf, effect, effectAtOf, effectOf}
-use Rattle.flash.proofs.EffectLaws.{begins-inside, none-above, step-room, Room}
+use Rattle.flash.proofs.EffectLaws.{begins-inside, by-operation, step-room, Room}
 
 module _ (g : Geometry) (ok : InRange g) (pwp : ℕ) where
   -- the program page of a place is not protected
@@ -82,16 +82,19 @@ module _ (g : Geometry) (ok : InRange g) (pwp : ℕ) where
   step-free : (op address step : ℕ) → beginsAtOf g op address pwp ≡ true → step < lengthOf g op → stepAtOf g op address step .program ≡ true
       → Free (stepAtOf g op address step)
   unfolding beginsAtOf lengthOf stepAtOf unitOf
-  step-free zero address step b l p = true-not-false (sym b)
-  step-free (suc zero) address step b l p = true-not-false (sym b)
-  step-free (suc (suc zero)) address step b l p = target-free 2 address step _ (quad-unit g ok) b (omega arith) p
-  step-free (suc (suc (suc zero))) address step b l p = target-free 3 address step _ (row-unit g ok) b (omega arith) p
-  step-free (suc (suc (suc (suc zero)))) address step b l p = target-free 4 address step _ (page-unit g ok) b (omega arith) p
-  step-free (suc (suc (suc (suc (suc zero))))) address step b l p = region-free false (16 * step) b (step-room g ok 5 address pwp step b l)
-  step-free (suc (suc (suc (suc (suc (suc zero)))))) address step b l p = region-free true (16 * step) b (step-room g ok 6 address pwp step b l)
-  step-free (suc (suc (suc (suc (suc (suc (suc zero))))))) address step b l p = zero-free b (stepAtOf g 7 address step)
-  step-free (suc (suc (suc (suc (suc (suc (suc (suc op)))))))) address step b l p =
-      true-not-false (sym b ∙ none-above g ok (suc (suc (suc (suc (suc (suc (suc (suc op)))))))) address pwp (omega arith))
+  step-free op address step b l p =
+      by-operation g ok
+      (λ op. beginsAtOf g op address pwp ≡ true → step < lengthOf g op → stepAtOf g op address step .program ≡ true → Free (stepAtOf g op address step))
+      op address pwp b
+      (λ b l p. target-free 2 address step _ (quad-unit g ok) b (omega arith) p)
+      (λ b l p. target-free 3 address step _ (row-unit g ok) b (omega arith) p)
+      (λ b l p. target-free 4 address step _ (page-unit g ok) b (omega arith) p)
+      (λ b l p. region-free false (16 * step) b (step-room g ok 5 address pwp step b l))
+      (λ b l p. region-free true (16 * step) b (step-room g ok 6 address pwp step b l))
+      (λ b l p. zero-free b (stepAtOf g 7 address step))
+      b
+      l
+      p
 
 -- what writes is not blocked
 not-blocked : (g : Geometry) (s : State) (sram : List ℕ) → effectOf g s sram .write .writes ≡ true → blockedOf g (s .device) (stepLocationOf g (s .device))

@@ -80,18 +80,32 @@ module _ (g : Geometry) (ok : InRange g) where
         ne-eqb op 7 (λ e. omega arith),
       )
 
+  -- what holds of each operation holds of one that begins steps
+  pub by-operation : (P : ℕ → Type 0) (op address pwp : ℕ) → beginsAtOf g op address pwp ≡ true → P 2 → P 3 → P 4 → P 5 → P 6 → P 7 → P op
+  unfolding beginsAtOf
+  by-operation P zero address pwp b quad row page lower upper both = true-not-false (sym b)
+  by-operation P (suc zero) address pwp b quad row page lower upper both = true-not-false (sym b)
+  by-operation P (suc (suc zero)) address pwp b quad row page lower upper both = quad
+  by-operation P (suc (suc (suc zero))) address pwp b quad row page lower upper both = row
+  by-operation P (suc (suc (suc (suc zero)))) address pwp b quad row page lower upper both = page
+  by-operation P (suc (suc (suc (suc (suc zero))))) address pwp b quad row page lower upper both = lower
+  by-operation P (suc (suc (suc (suc (suc (suc zero)))))) address pwp b quad row page lower upper both = upper
+  by-operation P (suc (suc (suc (suc (suc (suc (suc zero))))))) address pwp b quad row page lower upper both = both
+  by-operation P (suc (suc (suc (suc (suc (suc (suc (suc op)))))))) address pwp b quad row page lower upper both =
+      true-not-false (sym b ∙ none-above (suc (suc (suc (suc (suc (suc (suc (suc op)))))))) address pwp (omega arith))
+
   pub step-room : (op address pwp step : ℕ) → beginsAtOf g op address pwp ≡ true → step < lengthOf g op → Room (stepAtOf g op address step)
   unfolding beginsAtOf lengthOf stepAtOf unitOf Room
-  step-room zero address pwp step b l = true-not-false (sym b)
-  step-room (suc zero) address pwp step b l = true-not-false (sym b)
-  step-room (suc (suc zero)) address pwp step b l = target-room 2 address pwp step _ (quad-unit g ok) b (omega arith)
-  step-room (suc (suc (suc zero))) address pwp step b l = target-room 3 address pwp step _ (row-unit g ok) b (omega arith)
-  step-room (suc (suc (suc (suc zero)))) address pwp step b l = target-room 4 address pwp step _ (page-unit g ok) b (omega arith)
-  step-room (suc (suc (suc (suc (suc zero))))) address pwp step b l = omega arith
-  step-room (suc (suc (suc (suc (suc (suc zero)))))) address pwp step b l = omega arith
-  step-room (suc (suc (suc (suc (suc (suc (suc zero))))))) address pwp step b l = both-room step l
-  step-room (suc (suc (suc (suc (suc (suc (suc (suc op)))))))) address pwp step b l =
-      true-not-false (sym b ∙ none-above (suc (suc (suc (suc (suc (suc (suc (suc op)))))))) address pwp (omega arith))
+  step-room op address pwp step b l =
+      by-operation (λ op. beginsAtOf g op address pwp ≡ true → step < lengthOf g op → Room (stepAtOf g op address step)) op address pwp b
+      (λ b l. target-room 2 address pwp step _ (quad-unit g ok) b (omega arith))
+      (λ b l. target-room 3 address pwp step _ (row-unit g ok) b (omega arith))
+      (λ b l. target-room 4 address pwp step _ (page-unit g ok) b (omega arith))
+      (λ b l. omega arith)
+      (λ b l. omega arith)
+      (λ b l. both-room step l)
+      b
+      l
 
 -- ---- of a device whose operation runs
 module _ (g : Geometry) (d : Device) (runs : Runs g d) where

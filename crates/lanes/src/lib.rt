@@ -22,7 +22,8 @@ fn lanes_decline(source: usize, target: usize) -> Decline
 // Writes the lanes of an image's bytes to the target: all first bytes, then all second, third and fourth.
 // Where it is declined the target is as before.
 pub fn lanes_out(source: &[u8], target: &mut [u8]) -> Decline
-    ensures { λ r. ⌜ (r ≡ lanesDeclineOf (length (now (source .entry))) (length (now (target .entry)))) × (now (target .exit) ≡ targetOf lanesOutOf (now (source .entry)) (now (target .entry))) ⌝ }
+    ensures { λ r. ⌜ (r ≡ lanesDeclineOf (length (now (source .entry))) (length (now (target .entry))))
+        × (now (target .exit) ≡ targetOf lanesOutOf (now (source .entry)) (now (target .entry))) ⌝ }
 {
     let decline = lanes_decline(source.len(), target.len());
     if !decline.is_accepted() {
@@ -43,7 +44,8 @@ pub fn lanes_out(source: &[u8], target: &mut [u8]) -> Decline
 
 // Writes the bytes of an image to the target, given its lanes. Where it is declined the target is as before.
 pub fn lanes_back(source: &[u8], target: &mut [u8]) -> Decline
-    ensures { λ r. ⌜ (r ≡ lanesDeclineOf (length (now (source .entry))) (length (now (target .entry)))) × (now (target .exit) ≡ targetOf lanesBackOf (now (source .entry)) (now (target .entry))) ⌝ }
+    ensures { λ r. ⌜ (r ≡ lanesDeclineOf (length (now (source .entry))) (length (now (target .entry))))
+        × (now (target .exit) ≡ targetOf lanesBackOf (now (source .entry)) (now (target .entry))) ⌝ }
 {
     let decline = lanes_decline(source.len(), target.len());
     if !decline.is_accepted() {

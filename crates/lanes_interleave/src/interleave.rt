@@ -24,8 +24,10 @@ pub fn interleave_two(first: &[u8], second: &[u8], target: &mut [u8])
 // Writes four lists by turns to the front of the target, in two stages: first and third, second and fourth; then these two.
 // The compiler makes vector instructions of a loop that writes two lists, and none of one that writes four.
 pub fn interleave_four(first: &[u8], second: &[u8], third: &[u8], fourth: &[u8], target: &mut [u8])
-    requires { ⌜ (length (now first) ≤ 128) × (length (now second) ≡ length (now first)) × (length (now third) ≡ length (now first)) × (length (now fourth) ≡ length (now first)) × (4 * length (now first) ≤ length (now target)) ⌝ }
-    ensures { λ _. ⌜ Interleaved (now (first .entry) ∷ now (second .entry) ∷ now (third .entry) ∷ now (fourth .entry) ∷ []) (now (target .exit)) (length (now (first .entry))) ⌝ }
+    requires { ⌜ (length (now first) ≤ 128) × (length (now second) ≡ length (now first)) × (length (now third) ≡ length (now first))
+        × (length (now fourth) ≡ length (now first)) × (4 * length (now first) ≤ length (now target)) ⌝ }
+    ensures { λ _. ⌜ Interleaved (now (first .entry) ∷ now (second .entry) ∷ now (third .entry) ∷ now (fourth .entry) ∷ [])
+        (now (target .exit)) (length (now (first .entry))) ⌝ }
 {
     let mut even: [u8; 256] = [0; 256];
     let mut odd: [u8; 256] = [0; 256];

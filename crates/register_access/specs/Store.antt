@@ -32,7 +32,10 @@ storeDeclineOf g d r form =
 
 abbrev pub dataAfter : List ℕ → ℕ → ℕ → List ℕ
 dataAfter quad r w =
-    pick (eqb r NVMDATA0) (set quad 0 w) (pick (eqb r NVMDATA1) (set quad 1 w) (pick (eqb r NVMDATA2) (set quad 2 w) (pick (eqb r NVMDATA3) (set quad 3 w) quad)))
+    pick (eqb r NVMDATA0) (set quad 0 w)
+    (pick (eqb r NVMDATA1) (set quad 1 w)
+    (pick (eqb r NVMDATA2) (set quad 2 w)
+    (pick (eqb r NVMDATA3) (set quad 3 w) quad)))
 
 -- the device after a store to another register than NVMCON: "each field takes it if its condition holds on the state before
 -- the store, and else stays"; a key store moves the key step, "Any other accepted store sets it to 0 afterwards"

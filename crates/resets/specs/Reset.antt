@@ -66,7 +66,9 @@ resetConOf d kind =
 unfoldable pub resetDeviceOf : Device → ℕ → Bool → Device
 resetDeviceOf d kind swap =
     pick (eqb kind powerOnReset) (withCon powerOn (bitOr (resetConOf d kind) (pick swap BFSWAP 0)) 0 0)
-    (withCon (withStored d (d .nvmaddr) (d .nvmdata) (d .nvmsrcaddr) (getD resets NVMPWP 0) (getD resets NVMBWP 0) (mergeOf NVMERS (d .nvmcon2 .0) (getD resets NVMCON2 0)) 0)
+    (withCon
+    (withStored d (d .nvmaddr) (d .nvmdata) (d .nvmsrcaddr) (getD resets NVMPWP 0) (getD resets NVMBWP 0)
+    (mergeOf NVMERS (d .nvmcon2 .0) (getD resets NVMCON2 0)) 0)
     (bitOr (resetConOf d kind) (pick swap BFSWAP 0)) 0 0)
 
 -- "BFSWAP is compared after the tear. A reset gives no event."

@@ -146,7 +146,8 @@ pub fn turn(
     sram: &[u32],
     place: u32,
 ) -> Turned
-    ensures { λ r. ⌜ turnLeaves r (one .exit) (two .exit) ≡ turnOf g (lent d (one .entry) (two .entry)) (now (image .entry)) (now (sram .entry)) place ⌝ }
+    ensures { λ r. ⌜ turnLeaves r (one .exit) (two .exit)
+        ≡ turnOf g (lent d (one .entry) (two .entry)) (now (image .entry)) (now (sram .entry)) place ⌝ }
 {
     let e = turn_effect(g, d, one, two, image, sram, place);
     let write = e.write;

@@ -50,7 +50,8 @@ pub extern "C" fn yohrundel_page_sheet(
 
 #[no_mangle]
 pub extern "C" fn yohrundel_lanes_out(source: &[u8], target: &mut [u8]) -> u32
-    ensures { λ r. ⌜ (r ≡ numberOf (lanesDeclineOf (length (now (source .entry))) (length (now (target .entry))))) × (now (target .exit) ≡ targetOf lanesOutOf (now (source .entry)) (now (target .entry))) ⌝ }
+    ensures { λ r. ⌜ (r ≡ numberOf (lanesDeclineOf (length (now (source .entry))) (length (now (target .entry)))))
+        × (now (target .exit) ≡ targetOf lanesOutOf (now (source .entry)) (now (target .entry))) ⌝ }
 {
     let decline = lanes_out(source, target);
     decline.number()
@@ -58,7 +59,8 @@ pub extern "C" fn yohrundel_lanes_out(source: &[u8], target: &mut [u8]) -> u32
 
 #[no_mangle]
 pub extern "C" fn yohrundel_lanes_back(source: &[u8], target: &mut [u8]) -> u32
-    ensures { λ r. ⌜ (r ≡ numberOf (lanesDeclineOf (length (now (source .entry))) (length (now (target .entry))))) × (now (target .exit) ≡ targetOf lanesBackOf (now (source .entry)) (now (target .entry))) ⌝ }
+    ensures { λ r. ⌜ (r ≡ numberOf (lanesDeclineOf (length (now (source .entry))) (length (now (target .entry)))))
+        × (now (target .exit) ≡ targetOf lanesBackOf (now (source .entry)) (now (target .entry))) ⌝ }
 {
     let decline = lanes_back(source, target);
     decline.number()
