@@ -2,13 +2,14 @@
 -- Assumes nothing.
 use mathlib.Core.Path.{_≡_}
 use mathlib.Core.Bool.{true, false, _&&_}
-use Prim.Native.Nat.{ℕ, zero, suc, _^_, _≤_, _<_}
+use Prim.Native.Nat.{ℕ, _^_, _≤_, _<_}
 use native.Mathlib.Omega.{arith}
 use lib.Dec.{eqb, leb}
 use lib.Bits.{bitAnd}
 use borrow.Author.Tests.{le-leb, leb-true, eqb-true}
 use Rattle.words.specs.Word.{pick, hasOf}
 use Rattle.words.specs.Quad.{wordAt}
+use Rattle.words.proofs.CaseLaws.{below-four}
 use Rattle.words.proofs.PickLaws.{and-both}
 use Rattle.words.proofs.MaskLaws.{Within, within-test, test-within, below-within, within-below}
 use Rattle.geometry.specs.declared.banks.Geometry.{Geometry}
@@ -53,22 +54,12 @@ implemented d h =
       con = test-within 0xF0CF (d .nvmcon .0) (s0 .1);
       key = test-within 0 (d .nvmkey) (s1 .1);
       addr = test-word (d .nvmaddr) (s2 .1);
-      words = four (test-word _ (s3 .1)) (test-word _ (s4 .1)) (test-word _ (s5 .1)) (test-word _ (s6 .1));
+      words = below-four _ (test-word _ (s3 .1)) (test-word _ (s4 .1)) (test-word _ (s5 .1)) (test-word _ (s6 .1));
       src = test-word (d .nvmsrcaddr) (s7 .1);
       pwp = test-within 0x80FF_FFFF (d .nvmpwp .0) (s8 .1);
       bwp = test-within 0x9FDF (d .nvmbwp .0) (s9 .1);
       con2 = test-within 0xF01F_B3C0 (d .nvmcon2 .0) (s10 .1);
     }
-  where
-    P : ℕ → Type 0
-    P j = wordAt (d .nvmdata) j < 2 ^ 32
-
-    four : P 0 → P 1 → P 2 → P 3 → (j : ℕ) → j < 4 → P j
-    four a b c e zero l = a
-    four a b c e (suc zero) l = b
-    four a b c e (suc (suc zero)) l = c
-    four a b c e (suc (suc (suc zero))) l = e
-    four a b c e (suc (suc (suc (suc j)))) l = absurd (omega arith)
 
 pub implemented-test : (d : Device) → Implemented d → implementedOf d ≡ true
 unfolding implementedOf registerOf

@@ -2,14 +2,13 @@
 -- Assumes nothing.
 use mathlib.Core.Path.{_≡_, refl, _∙_}
 use mathlib.Core.Bool.{Bool, true, false, not, _&&_, or-false, and-false}
-use mathlib.Core.List.{[], _∷_}
-use Prim.Native.Nat.{ℕ, zero, suc, _+_, _^_, _<_}
+use Prim.Native.Nat.{ℕ, _+_, _<_}
 use native.Mathlib.Omega.{arith}
 use lib.Dec.{eqb, ltb, lit<}
 use lib.Bits.{bitOr}
 use borrow.Author.Tests.{eqb-false, lt-ltb, ltb-true}
 use Rattle.words.specs.Word.{pick, bit, hasOf, clearOf}
-use Rattle.words.specs.Quad.{wordAt}
+use Rattle.words.proofs.CaseLaws.{below-four}
 use Rattle.words.proofs.PickLaws.{pick-both, and-both}
 use Rattle.words.proofs.BitLaws.{bit-or, clear-bit, has-bit}
 use Rattle.words.proofs.MaskLaws.{Within, merge-within, or-within, clear-within}
@@ -72,20 +71,13 @@ module _ (g : Geometry) (d : Device) (can : possibleOf g d ≡ true) (on : runni
       go false e = going e
 
 -- ---- a reset
-zeros : (j : ℕ) → wordAt (0 ∷ 0 ∷ 0 ∷ 0 ∷ []) j < 2 ^ 32
-zeros zero = lit< tt
-zeros (suc zero) = lit< tt
-zeros (suc (suc zero)) = lit< tt
-zeros (suc (suc (suc zero))) = lit< tt
-zeros (suc (suc (suc (suc j)))) = lit< tt
-
 fresh-rows : Implemented powerOn
 fresh-rows =
     record {
       con = record { inside = refl };
       key = record { inside = refl };
       addr = lit< tt;
-      words = λ j l. zeros j;
+      words = below-four _ (lit< tt) (lit< tt) (lit< tt) (lit< tt);
       src = lit< tt;
       pwp = record { inside = refl };
       bwp = record { inside = refl };

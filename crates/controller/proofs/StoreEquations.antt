@@ -3,12 +3,13 @@
 use mathlib.Core.Path.{_≡_, refl, sym, ap, _∙_}
 use mathlib.Core.Bool.{Bool, true, false, or-true}
 use mathlib.Core.List.{List}
-use Prim.Native.Nat.{ℕ, zero, suc, _+_, _≤_, _<_}
+use Prim.Native.Nat.{ℕ, _+_, _≤_, _<_}
 use native.Mathlib.Omega.{arith}
 use lib.ListN.{set}
 use lib.Bits.{bitOr}
 use borrow.Author.Tests.{le-ltb, ne-eqb}
 use Rattle.words.specs.Word.{pick, bit, hasOf, mergeOf, clearOf}
+use Rattle.words.proofs.CaseLaws.{below-four}
 use Rattle.words.proofs.BitLaws.{bit-or, clear-bit, has-bit, bit-above}
 use Rattle.words.proofs.MaskLaws.{Within, merge-set, merge-clear, merge-none}
 use Rattle.geometry.specs.declared.banks.Geometry.{Geometry}
@@ -110,11 +111,9 @@ module _ (g : Geometry) (d : Device) (rest : AtRest g d) where
 
   pub data-store : (j w : ℕ) → j < 4 → storeOf g d (3 + j) 0 w ≡ accepted (withData d (set (d .nvmdata) j w)) false
   unfolding hasFormOf storeAcceptedOf appliedOf
-  data-store zero w l = store-runs 3 0 w refl
-  data-store (suc zero) w l = store-runs 4 0 w refl
-  data-store (suc (suc zero)) w l = store-runs 5 0 w refl
-  data-store (suc (suc (suc zero))) w l = store-runs 6 0 w refl
-  data-store (suc (suc (suc (suc j)))) w l = absurd (omega arith)
+  data-store j w =
+      below-four (λ j. storeOf g d (3 + j) 0 w ≡ accepted (withData d (set (d .nvmdata) j w)) false)
+      (store-runs 3 0 w refl) (store-runs 4 0 w refl) (store-runs 5 0 w refl) (store-runs 6 0 w refl) j
 
   -- the key
   pub key-store : (v : ℕ) → storeOf g d 1 0 v ≡ accepted (withCon d (d .nvmcon .0) (keyNextOf (d .keystep) v) (d .step)) false

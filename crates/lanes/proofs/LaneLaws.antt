@@ -2,11 +2,12 @@
 -- Assumes nothing.
 use mathlib.Core.Path.{_≡_, _∙_}
 use mathlib.Core.List.{List, _++_}
-use Prim.Native.Nat.{ℕ, zero, suc, _+_, _*_, _/_, _%_, _<_}
+use Prim.Native.Nat.{ℕ, _+_, _*_, _/_, _%_, _<_}
 use native.Mathlib.Nat.{div-add-mod', div-lt-iff-lt-mul, mod-lt}
 use native.Mathlib.Omega.{arith}
 use lib.ListN.{length, getD, length-append, List·getD-append}
 use lib.Seq.{getD-append-add, ext-getD}
+use Rattle.words.proofs.CaseLaws.{below-four}
 use Rattle.lanes.specs.Lanes.{wordsIn, laneOf, lanesOutOf, lanesBackOf}
 use Rattle.lanes.proofs.TabulateLaws.{tabulate-length, tabulate-at}
 
@@ -35,16 +36,15 @@ past bytes rest k i j e =
 
 pub out-at : (bytes : List ℕ) (k j : ℕ) → k < 4 → j < wordsIn bytes → getD (lanesOutOf bytes) (inLanes (wordsIn bytes) k j) 0 ≡ getD bytes (inWords k j) 0
 unfolding lanesOutOf
-out-at bytes zero j h l = let e : 0 * wordsIn bytes + j ≡ j = omega arith in rw e (first bytes _ 0 j l)
-out-at bytes (suc zero) j h l = past bytes _ 0 _ j (omega arith) ∙ first bytes _ 1 j l
-out-at bytes (suc (suc zero)) j h l =
-    past bytes _ 0 _ (wordsIn bytes + j) (omega arith) ∙ past bytes _ 1 _ j (omega arith) ∙ first bytes _ 2 j l
-out-at bytes (suc (suc (suc zero))) j h l =
-    past bytes _ 0 _ (wordsIn bytes + (wordsIn bytes + j)) (omega arith)
-    ∙ past bytes _ 1 _ (wordsIn bytes + j) (omega arith)
-    ∙ past bytes _ 2 _ j (omega arith)
-    ∙ tabulate-at _ (wordsIn bytes) j l
-out-at bytes (suc (suc (suc (suc k)))) j h l = absurd (omega arith)
+out-at bytes k j h l =
+    let n = wordsIn bytes in
+    let e : 0 * n + j ≡ j = omega arith in
+    below-four (λ k. getD (lanesOutOf bytes) (inLanes n k j) 0 ≡ getD bytes (inWords k j) 0)
+    (rw e (first bytes _ 0 j l))
+    (past bytes _ 0 _ j (omega arith) ∙ first bytes _ 1 j l)
+    (past bytes _ 0 _ (n + j) (omega arith) ∙ past bytes _ 1 _ j (omega arith) ∙ first bytes _ 2 j l)
+    (past bytes _ 0 _ (n + (n + j)) (omega arith) ∙ past bytes _ 1 _ (n + j) (omega arith) ∙ past bytes _ 2 _ j (omega arith) ∙ tabulate-at _ n j l)
+    k h
 
 pub back-length : (lanes : List ℕ) → length (lanesBackOf lanes) ≡ 4 * wordsIn lanes
 unfolding lanesBackOf

@@ -2,10 +2,11 @@
 -- Assumes nothing.
 use mathlib.Core.Path.{_≡_, _∙_}
 use mathlib.Core.List.{List, [], _∷_, _++_}
-use Prim.Native.Nat.{ℕ, zero, suc, _+_, _*_, _-_, _≤_, _<_}
+use Prim.Native.Nat.{ℕ, _+_, _*_, _-_, _≤_, _<_}
 use native.Mathlib.Omega.{arith}
 use lib.ListN.{length, getD, take, drop, length-take, length-drop, List·getD-append}
 use lib.Seq.{getD-append-add, getD-take, getD-drop, length-take-le}
+use Rattle.words.proofs.CaseLaws.{below-four}
 use Rattle.lanes_interleave.specs.Interleave.{Interleaved}
 use Rattle.lanes_interleave.specs.Blocks.{WordsBack}
 
@@ -23,11 +24,13 @@ lanesOfBlock source n from to =
 
 lane-at : (source : List ℕ) (n from to k j : ℕ) → k < 4 → from ≤ j → j < to
     → getD (getD (lanesOfBlock source n from to) k []) (j - from) 0 ≡ getD source (k * n + j) 0
-lane-at source n from to zero j hk h l = part-at source from to _ _ (omega arith) (omega arith)
-lane-at source n from to (suc zero) j hk h l = part-at source (n + from) (n + to) _ _ (omega arith) (omega arith)
-lane-at source n from to (suc (suc zero)) j hk h l = part-at source (2 * n + from) (2 * n + to) _ _ (omega arith) (omega arith)
-lane-at source n from to (suc (suc (suc zero))) j hk h l = part-at source (3 * n + from) (3 * n + to) _ _ (omega arith) (omega arith)
-lane-at source n from to (suc (suc (suc (suc k)))) j hk h l = absurd (omega arith)
+lane-at source n from to k j hk h l =
+    below-four (λ k. getD (getD (lanesOfBlock source n from to) k []) (j - from) 0 ≡ getD source (k * n + j) 0)
+    (part-at source from to _ _ (omega arith) (omega arith))
+    (part-at source (n + from) (n + to) _ _ (omega arith) (omega arith))
+    (part-at source (2 * n + from) (2 * n + to) _ _ (omega arith) (omega arith))
+    (part-at source (3 * n + from) (3 * n + to) _ _ (omega arith) (omega arith))
+    k hk
 
 -- the target with the block's bytes from its first word on
 pub block-back : (source target bytes rest : List ℕ) (n from to : ℕ)

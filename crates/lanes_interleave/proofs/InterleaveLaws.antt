@@ -2,10 +2,11 @@
 -- Assumes nothing.
 use mathlib.Core.Path.{_≡_, _∙_}
 use mathlib.Core.List.{List, [], _∷_}
-use Prim.Native.Nat.{ℕ, zero, suc, _+_, _*_, _≤_, _<_}
+use Prim.Native.Nat.{ℕ, _+_, _*_, _≤_, _<_}
 use native.Mathlib.Omega.{arith}
 use lib.ListN.{length, getD, set, take}
 use lib.Seq.{getD-take, length-take-le}
+use Rattle.words.proofs.CaseLaws.{below-four}
 use Rattle.lanes_interleave.specs.Interleave.{Interleaved}
 use Rattle.lanes_interleave.proofs.RoundLaws.{moved-next}
 
@@ -31,8 +32,10 @@ four-of-two first second third fourth even odd target n room evens odds both = a
         rw place (both b (2 * j + a) hb (omega (arith, length-take-le (2 * n) even room)))
 
     at : Interleaved (first ∷ second ∷ third ∷ fourth ∷ []) target n
-    at zero j hk h = stage 0 0 0 j (omega arith) h ∙ getD-take (2 * n) even (2 * j + 0) 0 (omega arith) ∙ evens 0 j (omega arith) h
-    at (suc zero) j hk h = stage 1 0 1 j (omega arith) h ∙ getD-take (2 * n) odd (2 * j + 0) 0 (omega arith) ∙ odds 0 j (omega arith) h
-    at (suc (suc zero)) j hk h = stage 2 1 0 j (omega arith) h ∙ getD-take (2 * n) even (2 * j + 1) 0 (omega arith) ∙ evens 1 j (omega arith) h
-    at (suc (suc (suc zero))) j hk h = stage 3 1 1 j (omega arith) h ∙ getD-take (2 * n) odd (2 * j + 1) 0 (omega arith) ∙ odds 1 j (omega arith) h
-    at (suc (suc (suc (suc k)))) j hk h = absurd (omega arith)
+    at k j hk h =
+        below-four (λ k. getD target (4 * j + k) 0 ≡ getD (getD (first ∷ second ∷ third ∷ fourth ∷ []) k []) j 0)
+        (stage 0 0 0 j (omega arith) h ∙ getD-take (2 * n) even (2 * j + 0) 0 (omega arith) ∙ evens 0 j (omega arith) h)
+        (stage 1 0 1 j (omega arith) h ∙ getD-take (2 * n) odd (2 * j + 0) 0 (omega arith) ∙ odds 0 j (omega arith) h)
+        (stage 2 1 0 j (omega arith) h ∙ getD-take (2 * n) even (2 * j + 1) 0 (omega arith) ∙ evens 1 j (omega arith) h)
+        (stage 3 1 1 j (omega arith) h ∙ getD-take (2 * n) odd (2 * j + 1) 0 (omega arith) ∙ odds 1 j (omega arith) h)
+        k hk

@@ -14,6 +14,7 @@ use lib.ListN.{length, set}
 use lib.Seq.{ext-getD}
 use borrow.Author.Tests.{eq-eqb, ne-eqb, lt-ltb, le-ltb}
 use Rattle.words.specs.Quad.{wordAt, quadAt, putQuad, blankQuad}
+use Rattle.words.proofs.CaseLaws.{below-four}
 use Rattle.words.proofs.PickLaws.{pick-both}
 use Rattle.words.proofs.QuadLaws.{put-length, put-other-quad, put-same-quad}
 use Rattle.geometry.specs.declared.banks.Geometry.{Geometry}
@@ -52,11 +53,7 @@ other-quad bank i quad j ne = put-other-quad bank i quad j (go (decLe i j))
 
 -- a word of a quad
 quad-word : (bank : List ℕ) (j k : ℕ) → k < 4 → wordAt (quadAt bank j) k ≡ wordAt bank (4 * j + k)
-quad-word bank j zero l = rw add-zero
-quad-word bank j (suc zero) l = refl
-quad-word bank j (suc (suc zero)) l = refl
-quad-word bank j (suc (suc (suc zero))) l = refl
-quad-word bank j (suc (suc (suc (suc k)))) l = absurd (omega arith)
+quad-word bank j = below-four _ (rw add-zero) refl refl refl
 
 -- banks with the same quads are equal
 by-quads : (n : ℕ) (one two : List ℕ) → length one ≡ 4 * n → length two ≡ 4 * n

@@ -4,7 +4,7 @@
 use mathlib.Core.Path.{_≡_, refl, sym, ap, _∙_}
 use mathlib.Core.Bool.{true}
 use mathlib.Core.List.{List, [], _∷_, _++_}
-use Prim.Native.Nat.{ℕ, zero, suc, _+_, _-_, _*_, _^_, _≤_, _<_}
+use Prim.Native.Nat.{ℕ, _+_, _-_, _*_, _^_, _≤_, _<_}
 use native.Mathlib.Nat.{mul-lt-mul-of-pos-right}
 use native.Mathlib.Decide.{decLe}
 use native.Mathlib.Omega.{arith}
@@ -12,6 +12,7 @@ use lib.Dec.{eqb, lit<}
 use lib.ListN.{length, take}
 use lib.Seq.{take-append-add}
 use Rattle.words.specs.Quad.{wordAt, quadAt, blankQuad}
+use Rattle.words.proofs.CaseLaws.{below-four}
 use Rattle.words.proofs.PickLaws.{pick-both}
 use Rattle.geometry.specs.declared.banks.Geometry.{Geometry}
 use Rattle.geometry.specs.Banks.{InRange, pagesOf, pageQuadsOf}
@@ -37,30 +38,19 @@ use Rattle.update.proofs.BankLaws.{page-below, quad-below}
 use Rattle.update.proofs.Blocks.{Fixed, Block, Has, storesIn, stepsIn, runIn, Begins, DeviceIn, oldWord, newWords}
 use Rattle.update.proofs.Blocks.Block.{prologue, page, quad}
 
--- the words of a quad, one by one
-pub by-word : (P : ℕ → Type 0) (q : List ℕ) → P (wordAt q 0) → P (wordAt q 1) → P (wordAt q 2) → P (wordAt q 3) → (k : ℕ) → k < 4 → P (wordAt q k)
-by-word P q a b c d zero l = a
-by-word P q a b c d (suc zero) l = b
-by-word P q a b c d (suc (suc zero)) l = c
-by-word P q a b c d (suc (suc (suc zero))) l = d
-by-word P q a b c d (suc (suc (suc (suc k)))) l = absurd (omega arith)
-
 -- a quad of four words of 32 bits
-abbrev pub Word32 : ℕ → Type 0
-Word32 w = w < 2 ^ 32
-
 abbrev pub SmallQuad : List ℕ → Type 0
 SmallQuad q = (k : ℕ) → k < 4 → wordAt q k < 2 ^ 32
 
 pub blank-small : SmallQuad blankQuad
-blank-small = by-word Word32 blankQuad (lit< tt) (lit< tt) (lit< tt) (lit< tt)
+blank-small = below-four _ (lit< tt) (lit< tt) (lit< tt) (lit< tt)
 
 pub quad-small : (l : List ℕ) (j : ℕ) → Words l → SmallQuad (quadAt l j)
-quad-small l j words = by-word Word32 (quadAt l j) (words (4 * j)) (words (4 * j + 1)) (words (4 * j + 2)) (words (4 * j + 3))
+quad-small l j words = below-four _ (words (4 * j)) (words (4 * j + 1)) (words (4 * j + 2)) (words (4 * j + 3))
 
 pub next-small : (w : ℕ) → SmallQuad (nextSequenceOf w)
 unfolding nextSequenceOf
-next-small w = by-word Word32 (nextSequenceOf w) (next-word w) (lit< tt) (lit< tt) (lit< tt)
+next-small w = below-four _ (next-word w) (lit< tt) (lit< tt) (lit< tt)
 
 -- the quads of the new bank
 pub new-small : (g : Geometry) (image : List ℕ) (w j : ℕ) → Words image → SmallQuad (newQuadOf g image w j)

@@ -15,7 +15,7 @@ use Rattle.words.specs.Word.{allOnes, mergeOf}
 use Rattle.words.specs.Quad.{wordAt, quadAt, putQuad, blankQuad, mergeQuadOf}
 use Rattle.words.specs.Decline.{acceptedOf}
 use Rattle.words.proofs.BitLaws.{true-not-false}
-use Rattle.words.proofs.QuadLaws.{put-length}
+use Rattle.words.proofs.QuadLaws.{put-length, merge-quad-word}
 use Rattle.geometry.specs.Banks.{InRange, bankWordsOf}
 use Rattle.geometry.proofs.SizeLaws.{in-range}
 use Rattle.sequence.specs.Sequence.{sequenceQuadOf, sequenceIndexOf, nextSequenceOf}
@@ -37,15 +37,12 @@ use Rattle.update.proofs.PlacedLaws.{placed, bank-new, new-long, compar
 use Rattle.update.proofs.Blocks.{Fixed, Block, Has, stepsIn, quadIn, wordsIn, BankIn, Losing, Phase, oldWord, newWords, newBank}
 use Rattle.update.proofs.Blocks.Block.{prologue, page, quad}
 use Rattle.update.proofs.Blocks.Phase.{storing, stepping, ending, finished}
-use Rattle.update.proofs.BlockStores.{SmallQuad, Word32, by-word, blank-small, quad-small, new-small, block-rests}
+use Rattle.update.proofs.BlockStores.{SmallQuad, blank-small, quad-small, new-small, block-rests}
 use Rattle.update.proofs.BlockSteps.{block-codes, block-writes}
 
 merged-small : (mask x y : List ℕ) → SmallQuad x → SmallQuad y → SmallQuad (mergeQuadOf mask x y)
-merged-small mask x y hx hy =
-    by-word Word32 (mergeQuadOf mask x y) (word 0 (omega arith)) (word 1 (omega arith)) (word 2 (omega arith)) (word 3 (omega arith))
-  where
-    word : (k : ℕ) → k < 4 → mergeOf (wordAt mask k) (wordAt x k) (wordAt y k) < 2 ^ 32
-    word k l = merge-word (wordAt mask k) (wordAt x k) (wordAt y k) (hx k l) (hy k l)
+merged-small mask x y hx hy k l =
+    rw (merge-quad-word mask x y k l) (merge-word (wordAt mask k) (wordAt x k) (wordAt y k) (hx k l) (hy k l))
 
 module _ (u : Fixed) where
   open Fixed u using (g, image, b, old, listed, image-long, image-words, valid)

@@ -1,3 +1,4 @@
+pub mod CaseLaws
 pub mod PickLaws
 pub mod BitLaws
 pub mod MaskLaws

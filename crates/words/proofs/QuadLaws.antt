@@ -1,14 +1,15 @@
 -- The quads of a bank: a store changes its own quad and no other word, and keeps the length. A merge of quads is the merge of each bit.
 -- Assumes nothing.
-use mathlib.Core.Path.{_≡_}
+use mathlib.Core.Path.{_≡_, refl, ap, _∙_}
 use mathlib.Core.List.{List, [], _∷_}
 use mathlib.Core.Logic.{_⊎_, inl, inr, ⊎-elim}
-use Prim.Native.Nat.{ℕ, zero, suc, _+_, _*_, _≤_, _<_}
+use Prim.Native.Nat.{ℕ, _+_, _*_, _≤_, _<_}
 use native.Mathlib.Omega.{arith}
 use lib.ListN.{length, set, length-set}
 use lib.Seq.{getD-set-same, getD-set-other}
-use Rattle.words.specs.Word.{pick, bit}
+use Rattle.words.specs.Word.{pick, bit, mergeOf}
 use Rattle.words.specs.Quad.{wordAt, quadFrom, quadAt, putFrom, putQuad, mergeQuadOf}
+use Rattle.words.proofs.CaseLaws.{below-four}
 use Rattle.words.proofs.BitLaws.{merge-bit}
 
 pub put-length : (bank : List ℕ) (i : ℕ) (quad : List ℕ) → length (putQuad bank i quad) ≡ length bank
@@ -60,11 +61,12 @@ put-same-quad bank i a b c d h = stored (4 * i) h
         let l3 : w + 3 < length (set (set (set bank w a) (w + 1) b) (w + 2) c) = simp length-set (omega arith) in
         simp (getD-set-same, getD-set-other)
 
+-- a merge of quads, word by word
+pub merge-quad-word : (mask a b : List ℕ) (j : ℕ) → j < 4
+    → wordAt (mergeQuadOf mask a b) j ≡ mergeOf (wordAt mask j) (wordAt a j) (wordAt b j)
+merge-quad-word mask a b = below-four _ refl refl refl refl
+
 -- the law of merge, for each word of a quad
 pub merge-quad-bit : (mask a b : List ℕ) (j k : ℕ) → j < 4
     → bit k (wordAt (mergeQuadOf mask a b) j) ≡ pick (bit k (wordAt mask j)) (bit k (wordAt a j)) (bit k (wordAt b j))
-merge-quad-bit mask a b zero k h = merge-bit k (wordAt mask 0) (wordAt a 0) (wordAt b 0)
-merge-quad-bit mask a b (suc zero) k h = merge-bit k (wordAt mask 1) (wordAt a 1) (wordAt b 1)
-merge-quad-bit mask a b (suc (suc zero)) k h = merge-bit k (wordAt mask 2) (wordAt a 2) (wordAt b 2)
-merge-quad-bit mask a b (suc (suc (suc zero))) k h = merge-bit k (wordAt mask 3) (wordAt a 3) (wordAt b 3)
-merge-quad-bit mask a b (suc (suc (suc (suc j)))) k h = absurd (omega arith)
+merge-quad-bit mask a b j k h = ap (bit k) (merge-quad-word mask a b j h) ∙ merge-bit k (wordAt mask j) (wordAt a j) (wordAt b j)
