@@ -1,22 +1,53 @@
 -- Sizes of a geometry in range are small.
 use mathlib.Core.Path.{ap}
-use Prim.Native.Nat.{ℕ, _*_}
+use Prim.Native.Nat.{ℕ, _+_, _*_, _≤_}
 use borrow.Author.Needs.{needs}
 use native.Mathlib.Omega.{arith}
+use Rattle.geometry.specs.Banks.{mostBootPages, mostProgramPages}
 use Rattle.update.specs.Actions.{totalOf}
 use Rattle.update_actions.proofs.actions.total.Statement.{statement}
 use Rattle.update_actions.proofs.actions.total.Tie as tie
 
-pub total-spec : {M : Type 1} → statement M
+-- the pages are few
+pages-few : (c : tie.After-pages) → c .pages .result ≤ mostBootPages + mostProgramPages
+pages-few c = let h = c .before .pre in omega (arith, c .pages .ensures, h .b-high, h .p-high)
+
+-- and so are their rows' quads
+quads-few : (c : tie.After-struct-known)
+    → c .before .pages2 .result * c .before .before .before .args .g .q ≤ (mostBootPages + mostProgramPages) * 128
+quads-few c =
+    let start = c .before .before .before in
+    let counted = ap (λ (n : ℕ). n * start .args .g .q) (c .before .pages2 .ensures) in
+    omega (arith, counted, start .pre .boot-high, start .pre .program-high)
+
+pages-product : tie.Need-mul-result
+pages-product c = omega (arith, pages-few c)
+
+pages-sum : tie.Need-add-result
+pages-sum c = omega (arith, pages-few c)
+
+quads-fit : tie.Need-mul-result-2
+quads-fit c = omega (arith, quads-few c)
+
+quads-product : tie.Need-mul-result-3
+quads-product c = omega (arith, quads-few c)
+
+sum : tie.Need-add-result-2
+sum c = omega (arith, pages-few (c .before .before), quads-few c)
+
+returns : tie.Need-returns
 unfolding totalOf
+returns c = rw (c .before .before .pages .ensures, c .before .pages2 .ensures)
+
+pub total-spec : {M : Type 1} → statement M
 total-spec =
     tie.close
     (tie.spec
     (λ c κs. search needs)
-    (λ c. omega (arith, c .pages .ensures, c .before .pre .b-high, c .before .pre .p-high))
-    (λ c. omega (arith, c .pages .ensures, c .before .pre .b-high, c .before .pre .p-high))
+    pages-product
+    pages-sum
     (λ c κs. search needs)
-    (λ c. omega (arith, ap (λ (x : ℕ). x * c .before .before .before .args .g .q) (c .before .pages2 .ensures), c .before .before .before .pre .boot-high, c .before .before .before .pre .program-high))
-    (λ c. omega (arith, ap (λ (x : ℕ). x * c .before .before .before .args .g .q) (c .before .pages2 .ensures), c .before .before .before .pre .boot-high, c .before .before .before .pre .program-high))
-    (λ c. omega (arith, c .before .before .pages .ensures, ap (λ (x : ℕ). x * c .before .before .before .args .g .q) (c .before .pages2 .ensures), c .before .before .before .pre .boot-high, c .before .before .before .pre .program-high, c .before .before .before .pre .b-high, c .before .before .before .pre .p-high))
-    (λ c. rw (c .before .before .pages .ensures, c .before .pages2 .ensures)))
+    quads-fit
+    quads-product
+    sum
+    returns)
