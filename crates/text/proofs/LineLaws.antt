@@ -43,7 +43,11 @@ line-length i answer con event digit =
 
 -- its columns, each after the one before
 pub put-line : (out : List ℕ) (at i answer con : ℕ) (event : Bool)
-    → sets (sets (sets (sets out at (decimalOf i blank)) (at + widthOf i + 1) (decimalOf answer blank)) (at + widthOf i + 1 + widthOf answer + 1) (columnOf 16 con 8 blank)) (at + widthOf i + 1 + widthOf answer + 1 + 8 + 1) (decimalOf (flagOf event) lineFeed)
+    → let second = at + widthOf i + 1 in
+    let third = second + widthOf answer + 1 in
+    let fourth = third + 8 + 1 in
+    sets (sets (sets (sets out at (decimalOf i blank)) second (decimalOf answer blank)) third (columnOf 16 con 8 blank)) fourth
+    (decimalOf (flagOf event) lineFeed)
     ≡ sets out at (lineOf i answer con event)
 unfolding lineOf
 put-line out at i answer con event =
@@ -51,10 +55,15 @@ put-line out at i answer con event =
     let reply = decimalOf answer blank in
     let nvmcon = columnOf 16 con 8 blank in
     let last = decimalOf (flagOf event) lineFeed in
+    let second = at + widthOf i + 1 in
+    let third = second + widthOf answer + 1 in
+    let fourth = third + 8 + 1 in
+    let one = sets out at number in
+    let two = sets one second reply in
     rw (
-      sets-after out at (at + widthOf i + 1) number (reply ++ (nvmcon ++ last)) (omega (arith, column-length 10 i (widthOf i) blank)),
-      sets-after (sets out at number) (at + widthOf i + 1) (at + widthOf i + 1 + widthOf answer + 1) reply (nvmcon ++ last) (omega (arith, column-length 10 answer (widthOf answer) blank)),
-      sets-after (sets (sets out at number) (at + widthOf i + 1) reply) (at + widthOf i + 1 + widthOf answer + 1) (at + widthOf i + 1 + widthOf answer + 1 + 8 + 1) nvmcon last (omega (arith, column-length 16 con 8 blank)),
+      sets-after out at second number (reply ++ (nvmcon ++ last)) (omega (arith, column-length 10 i (widthOf i) blank)),
+      sets-after one second third reply (nvmcon ++ last) (omega (arith, column-length 10 answer (widthOf answer) blank)),
+      sets-after two third fourth nvmcon last (omega (arith, column-length 16 con 8 blank)),
     )
 
 -- ---- the lines together

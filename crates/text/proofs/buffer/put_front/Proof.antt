@@ -1,5 +1,5 @@
 -- The invariant: the bytes that are left, written now, make what all make at the start. The measure is those that have room.
-use Prim.Native.Nat.{_+_, _-_, _≤_}
+use Prim.Native.Nat.{_+_, _-_, _≤_, _<_}
 use borrow.Author.Needs.{needs}
 use lib.ListN.{length, drop, length-set}
 use lib.Seq.{sets}
@@ -16,6 +16,50 @@ Inv-loop out₀ at bytes count i₀ out i =
 abbrev μ-loop : tie.MeasureT-loop
 μ-loop out₀ at bytes count i₀ out i = count - i
 
+-- the call's arguments
+abbrev entry : tie.At-loop Inv-loop μ-loop → tie.Start Inv-loop μ-loop
+entry c = c .before .before .before .before
+
+-- within the loop there is a byte, and room for it
+has-room : (c : tie.In-loop Inv-loop μ-loop) → let a = entry (c .before) .args in let i = c .before .loop .i in
+    (i < length (a .bytes .now)) × (a .at + i < length (a .out .now))
+has-room c = omega (arith, c .before .before .room .ensures)
+
+starts : tie.Need-loop-holds Inv-loop μ-loop
+starts c =
+    let at = c .before .before .before .args .at in
+    let here : at + 0 ≡ at = omega arith in
+    (omega arith, refl, rw here)
+
+readable : tie.Need-shared-slice-read-out Inv-loop μ-loop
+readable c = omega (arith, has-room (c .before))
+
+no-overflow : tie.Need-add-out Inv-loop μ-loop
+no-overflow c = omega (arith, has-room (c .before))
+
+writable : tie.Need-slice-write-out Inv-loop μ-loop
+writable c = omega (arith, has-room (c .before), c .before .before .loop .inv .1)
+
+byte-written : tie.Need-loop-again Inv-loop μ-loop
+byte-written c =
+    let turn = c .before .before in
+    let a = entry turn .args in
+    let (within, same, written) = turn .loop .inv in
+    let next = put-next (turn .loop .out) (a .bytes .now) (a .at) (turn .loop .i) (has-room (c .before) .0) in
+    (omega arith, simp length-set same, next ∙ written)
+
+same-length : tie.Need-same-length Inv-loop μ-loop
+same-length c = c .before .loop .inv .1
+
+returns : tie.Need-returns Inv-loop μ-loop
+returns c =
+    let turn = c .before in
+    let a = entry turn .args in
+    let (within, same, written) = turn .loop .inv in
+    let all : turn .loop .i ≡ turn .before .room .result = omega (arith, c .loop-test .left) in
+    let ends = put-ends (turn .loop .out) (a .bytes .now) (a .at) (turn .loop .i) (omega (arith, all, same, turn .before .room .ensures)) in
+    sym ends ∙ written
+
 pub put-front-spec : {M : Type 1} → statement M
 put-front-spec =
     tie.close
@@ -23,15 +67,12 @@ put-front-spec =
     Inv-loop
     μ-loop
     (λ c κs. search needs)
-    (λ c. let e : c .before .before .before .args .at + 0 ≡ c .before .before .before .args .at = omega arith in (omega arith, refl, rw e))
-    (λ c. omega (arith, c .before .before .before .room .ensures))
-    (λ c. omega (arith, c .before .before .before .room .ensures))
-    (λ c. omega (arith, c .before .before .before .room .ensures, c .before .before .loop .inv .1))
+    starts
+    readable
+    no-overflow
+    writable
     (λ c. omega arith)
     (λ c. omega arith)
-    (λ c. let (within, same, written) = c .before .before .loop .inv in (omega arith, simp length-set same, put-next (c .before .before .loop .out) (c .before .before .before .before .before .before .args .bytes .now) (c .before .before .before .before .before .before .args .at) (c .before .before .loop .i) (omega (arith, c .before .before .before .room .ensures)) ∙ written))
-    (λ c. c .before .loop .inv .1)
-    (λ c.
-    let (within, same, written) = c .before .loop .inv in
-    let e : c .before .loop .i ≡ c .before .before .room .result = omega (arith, c .loop-test .left) in
-    sym (put-ends (c .before .loop .out) (c .before .before .before .before .before .args .bytes .now) (c .before .before .before .before .before .args .at) (c .before .loop .i) (omega (arith, e, same, c .before .before .room .ensures))) ∙ written))
+    byte-written
+    same-length
+    returns)

@@ -1,5 +1,5 @@
 -- The invariant: the digits that are left, written now, make what all make at the start. The measure is their count.
-use Prim.Native.Nat.{_≤_}
+use Prim.Native.Nat.{_≤_, _<_}
 use borrow.Author.Needs.{needs}
 use lib.ListN.{length, length-set}
 use lib.Seq.{sets}
@@ -18,20 +18,50 @@ Inv-loop out₀ at number base count left₀ rest₀ out left rest =
 abbrev μ-loop : tie.MeasureT-loop
 μ-loop out₀ at number base count left₀ rest₀ out left rest = left
 
+starts : tie.Need-loop-holds Inv-loop μ-loop
+starts c = (omega arith, refl, refl)
+
+-- the base is from 1 to 16
+base : (c : tie.In-loop Inv-loop μ-loop) → let a = c .before .before .before .args in (0 < a .base) × (a .base ≤ 16)
+base c = c .before .before .before .pre .0
+
+last-digit : tie.Need-rem-digit Inv-loop μ-loop
+last-digit c = base c .0
+
+digit-low : tie.Need-digit-requires Inv-loop μ-loop
+digit-low c κs = omega (arith, mod-lt (c .before .loop .rest) (base c .0), base c .1)
+
+other-digits : tie.Need-div-rest Inv-loop μ-loop
+other-digits c = base (c .before) .0
+
+digit-written : tie.Need-loop-again Inv-loop μ-loop
+digit-written c =
+    let (within, same, written) = c .before .before .loop .inv in
+    (omega arith, simp length-set same, rw (c .digit .ensures) (put-digit _ _ _ _ _ (c .before .loop-test .taken) ∙ written))
+
+same-length : tie.Need-same-length Inv-loop μ-loop
+same-length c = c .before .loop .inv .1
+
+returns : tie.Need-returns Inv-loop μ-loop
+returns c =
+    let (within, same, written) = c .before .loop .inv in
+    let none : c .before .loop .left ≡ 0 = omega (arith, c .loop-test .left) in
+    rw none at written
+
 pub put-digits-spec : {M : Type 1} → statement M
 put-digits-spec =
     tie.close
     (tie.spec
     Inv-loop
     μ-loop
-    (λ c. (omega arith, refl, refl))
+    starts
     (λ c. omega arith)
-    (λ c. c .before .before .before .pre .0 .0)
-    (λ c κs. omega (arith, mod-lt (c .before .loop .rest) (c .before .before .before .pre .0 .0), c .before .before .before .pre .0 .1))
+    last-digit
+    digit-low
     (λ c. search needs)
     (λ c. omega arith)
-    (λ c. c .before .before .before .before .pre .0 .0)
+    other-digits
     (λ c. omega arith)
-    (λ c. let (within, same, written) = c .before .before .loop .inv in (omega arith, simp length-set same, rw (c .digit .ensures) (put-digit _ _ _ _ _ (c .before .loop-test .taken) ∙ written)))
-    (λ c. c .before .loop .inv .1)
-    (λ c. let (within, same, written) = c .before .loop .inv in let none : c .before .loop .left ≡ 0 = omega (arith, c .loop-test .left) in rw none at written))
+    digit-written
+    same-length
+    returns)
