@@ -14,6 +14,12 @@ Inv-loop g one₀ two₀ image total ended₀ turns₀ one two ended turns =
 abbrev μ-loop : tie.MeasureT-loop
 μ-loop g one₀ two₀ image total ended₀ turns₀ one two ended turns = total - turns
 
+no-overflow : tie.Need-add-turns Inv-loop μ-loop
+no-overflow c =
+    let test = c .before .before .before .before .before .before .before .before .before in
+    let start = test .before .before .before .before .before in
+    omega (arith, start .fits .total, test .loop-test .taken)
+
 pub run-whole-spec : {M : Type 1} → statement M
 run-whole-spec =
     tie.close
@@ -23,7 +29,7 @@ run-whole-spec =
     (λ c. search needs)
     (λ c κs. search needs)
     (λ c κs. search needs)
-    (λ c. omega (arith, c .before .before .before .before .before .before .before .before .before .before .before .before .before .before .fits .total, c .before .before .before .before .before .before .before .before .before .loop-test .taken))
+    no-overflow
     (λ c. search needs)
     (λ c. search needs)
     (λ c κs. search needs)
