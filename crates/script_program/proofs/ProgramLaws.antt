@@ -27,7 +27,8 @@ use Rattle.controller.proofs.Controller.{controller}
 use Rattle.script_format.specs.Records.{recordsOf, isScriptOf}
 use Rattle.controller.specs.Controller.{Sound}
 use Rattle.script_play.specs.Play.{stateOf, linesOf, playDeclineOf, Playback, playback, playedOf, playOf}
-use Rattle.script_program.specs.Program.{smallest, firstBank, erasedBank, startOf, longest, declineLine, printedOf, outputRoom, Printout, takenOf, writtenOf, printOf}
+use Rattle.script_program.specs.Program.{smallest, firstBank, erasedBank, startOf, longest, declineLine, outputRoom}
+use Rattle.script_program.specs.Program.{Printout, printedOf, takenOf, writtenOf, printOf}
 use Rattle.script_play.proofs.ControllerLaws.{Bytes, play-sound}
 use Rattle.script_play.proofs.PlayLaws.{lines-length}
 

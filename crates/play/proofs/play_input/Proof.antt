@@ -7,6 +7,23 @@ use Rattle.script_program.proofs.ProgramLaws.{print-within}
 use Rattle.play.proofs.play_input.Statement.{statement}
 use Rattle.play.proofs.play_input.Tie as tie
 
+script-long : tie.Need-slice-aggregate-print
+script-long c = sym (length-take-le _ _ (omega arith))
+
+-- the call's arguments, after the print
+abbrev entry : tie.After-print → tie.Start
+entry c = c .before .before .before .before .before .before .before .before .before .before .before .before .before .before
+
+output-inside : tie.Need-slice-reshare-prefix-write-all
+output-inside c =
+    let printed = c .before .before in
+    omega (arith, print-within _ _ _ (printed .print .ensures) (omega (arith, entry printed .pre)))
+
+output-long : tie.Need-slice-aggregate-write-all-2
+output-long c =
+    let printed = c .before .before .before in
+    sym (length-take-le _ _ (omega (arith, print-within _ _ _ (printed .print .ensures) (omega (arith, entry printed .pre)))))
+
 pub play-input-spec : {M : Type 1} → statement M
 play-input-spec =
     tie.close
@@ -18,10 +35,10 @@ play-input-spec =
     (λ c. search needs)
     (λ c. search needs)
     (λ c. search needs)
-    (λ c. sym (length-take-le _ _ (omega arith)))
+    script-long
     (λ c κs. search needs)
-    (λ c. omega (arith, print-within _ _ _ (c .before .before .print .ensures) (omega (arith, c .before .before .before .before .before .before .before .before .before .before .before .before .before .before .before .before .pre))))
-    (λ c. sym (length-take-le _ _ (omega (arith, print-within _ _ _ (c .before .before .before .print .ensures) (omega (arith, c .before .before .before .before .before .before .before .before .before .before .before .before .before .before .before .before .before .pre))))))
+    output-inside
+    output-long
     (λ c κs. search needs)
     (λ c. search needs)
     (λ c κs. search needs)
