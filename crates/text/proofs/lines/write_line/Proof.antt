@@ -17,7 +17,10 @@ use Rattle.text.proofs.lines.write_line.Tie as tie
 abbrev entry : tie.After-put-line → tie.Start
 entry c = c .before .before .before
 
--- a line has at most 34 bytes
+-- the line, of at most 34 bytes
+abbrev line : tie.After-put-line → List ℕ
+line c = let a = entry c .args in lineOf (a .i) (a .answer) (a .con) (a .event)
+
 line-short : (c : tie.After-put-line) → c .put-line .result ≤ 34
 line-short c = omega (arith, width-twenty (entry c .args .i) (omega arith), c .put-line .ensures .1)
 
@@ -30,12 +33,10 @@ front-inside c = omega (arith, line-short (c .before .before))
 front-length : tie.Need-slice-aggregate-put-front
 front-length c =
     let put = c .before .before .before in
-    sym (length-take-le _ _ (omega (arith, line-short put, simp length-sets at (ap length (put .put-line .ensures .0)))))
+    let long = ap length {y = sets (replicate 34 0) 0 (line put)} (put .put-line .ensures .0) in
+    sym (length-take-le _ _ (omega (arith, line-short put, simp length-sets at long)))
 
 -- its bytes, put at the front, are the line
-abbrev line : tie.After-put-line → List ℕ
-line c = let a = entry c .args in lineOf (a .i) (a .answer) (a .con) (a .event)
-
 whole : (c : tie.After-put-line) → take (c .put-line .result) (sets (replicate 34 0) 0 (line c)) ≡ line c
 whole c =
     let a = entry c .args in
