@@ -27,7 +27,8 @@ use Rattle.register_access.proofs.AcceptedLaws.{AtRest}
 use Rattle.start_up.specs.StartUp.{storesOf}
 use Rattle.start_up.proofs.StartUpLaws.{stores-append}
 use Rattle.controller.proofs.RestLaws.{NoLaunches}
-use Rattle.update.specs.Actions.{clearingStores, unprotectingStores, pageStores, quadStores, upperAddressOf, erasedPageOf, programmedQuadOf, newQuadOf, bankQuadsOf}
+use Rattle.update.specs.Actions.{clearingStores, unprotectingStores, pageStores, quadStores}
+use Rattle.update.specs.Actions.{upperAddressOf, erasedPageOf, programmedQuadOf, newQuadOf, bankQuadsOf}
 use Rattle.update.specs.PowerFail.{Words}
 use Rattle.update.proofs.WordLaws.{next-word}
 use Rattle.update.proofs.TargetLaws.{address-word}

@@ -32,7 +32,8 @@ use Rattle.update.specs.Actions.{programmedQuadOf, bankQuadsOf}
 use Rattle.update.specs.Start.{clashOf}
 use Rattle.update.specs.PowerFail.{Words, Cut, resetBy}
 use Rattle.update.proofs.WordLaws.{Loses, chosenOf, erased-clash, clash-loses, rises-loses, erase-rises, merge-word, torn-sequence}
-use Rattle.update.proofs.BankLaws.{Programmed, new-sequence, quad-once, sequence-last, sequence-blank, programmed-all, programmed-last, other-word, same-word, words-put}
+use Rattle.update.proofs.BankLaws.{Programmed, new-sequence, quad-once, sequence-last, sequence-blank, programmed-all, programmed-last}
+use Rattle.update.proofs.BankLaws.{other-word, same-word, words-put}
 use Rattle.update.proofs.PlacedLaws.{placed, bank-new, new-long, compared-placed, put-placed}
 use Rattle.update.proofs.Blocks.{Fixed, Block, Has, stepsIn, quadIn, wordsIn, BankIn, Losing, Phase, oldWord, newWords, newBank}
 use Rattle.update.proofs.Blocks.Block.{prologue, page, quad}

@@ -21,7 +21,7 @@ abbrev μ-loop : tie.MeasureT-loop
 -- ---- a turn of the loop: its test, and its place's line
 
 abbrev placed : tie.After-slice-known8 Inv-loop μ-loop → tie.After-put-place Inv-loop μ-loop
-placed c = c .before .before .before .before .before .before .before .before
+placed c = let banks = c .before .before .before .before in banks .before .before .before .before
 
 abbrev test : tie.After-put-place Inv-loop μ-loop → tie.In-loop Inv-loop μ-loop
 test c = c .before .before .before .before .before
@@ -41,7 +41,7 @@ loop-again c = let tested = test (placed c) in omega (arith, tested .loop-test .
 -- ---- the last line, and the loop before it
 
 abbrev last : tie.After-slice-known12 Inv-loop μ-loop → tie.After-put-place2 Inv-loop μ-loop
-last c = c .before .before .before .before .before .before .before .before
+last c = let banks = c .before .before .before .before in banks .before .before .before .before
 
 abbrev left : tie.After-put-place2 Inv-loop μ-loop → tie.At-loop Inv-loop μ-loop
 left c = c .before .before .before .before .before .before

@@ -26,15 +26,15 @@ quad-fits c = let h = c .before .before .pre .0 in omega (arith, first-quad c, h
 quad-in-bank : tie.Need-upper-address-requires
 quad-in-bank c κs = (c .before .before .pre .0, first-quad c)
 
-address : tie.Need-returns
+address-stored : tie.Need-returns
 unfolding pageActionOf
-address c = rw (c .before .before .if1 .taken, c .upper-address .ensures, c .before .page-quads .ensures)
+address-stored c = rw (c .before .before .if1 .taken, c .upper-address .ensures, c .before .page-quads .ensures)
 
 -- ---- the launch, the steps, the end
 
-launch : tie.Need-returns-2
+launched : tie.Need-returns-2
 unfolding pageActionOf
-launch c = rw (c .launch-action .ensures, lt-ltb _ _ (c .before .if2 .taken)) (launch-of-page _ _ (c .before .before .before .args .k) (omega arith))
+launched c = rw (c .launch-action .ensures, lt-ltb _ _ (c .before .if2 .taken)) (launch-of-page _ _ (c .before .before .before .args .k) (omega arith))
 
 in-range-still : tie.Need-page-quads-requires-2
 in-range-still c κs = c .before .before .pre .0
@@ -42,13 +42,13 @@ in-range-still c κs = c .before .before .pre .0
 last-fits : tie.Need-add-if3
 last-fits c = omega (arith, c .page-quads2 .ensures, c .before .before .before .pre .0 .q-high)
 
-step : tie.Need-returns-3
+stepped : tie.Need-returns-3
 unfolding pageActionOf
-step c = rw (le-ltb _ _ (c .before .before .if2 .left), ← c .before .page-quads2 .ensures, lt-ltb _ _ (c .if3 .taken))
+stepped c = rw (le-ltb _ _ (c .before .before .if2 .left), ← c .before .page-quads2 .ensures, lt-ltb _ _ (c .if3 .taken))
 
-end : tie.Need-returns-4
+ended : tie.Need-returns-4
 unfolding pageActionOf
-end c = rw (le-ltb _ _ (c .before .before .if2 .left), ← c .before .page-quads2 .ensures, le-ltb _ _ (c .if3 .left))
+ended c = rw (le-ltb _ _ (c .before .before .if2 .left), ← c .before .page-quads2 .ensures, le-ltb _ _ (c .if3 .left))
 
 pub page-action-spec : {M : Type 1} → statement M
 page-action-spec =
@@ -57,11 +57,11 @@ page-action-spec =
     in-range
     quad-fits
     quad-in-bank
-    address
+    address-stored
     (λ c. search needs)
     (λ c κs. omega arith)
-    launch
+    launched
     in-range-still
     last-fits
-    step
-    end)
+    stepped
+    ended)

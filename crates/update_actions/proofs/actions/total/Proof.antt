@@ -20,20 +20,20 @@ quads-few c =
     let counted = ap (λ (n : ℕ). n * start .args .g .q) (c .before .pages2 .ensures) in
     omega (arith, counted, start .pre .boot-high, start .pre .program-high)
 
-pages-product : tie.Need-mul-result
-pages-product c = omega (arith, pages-few c)
+pages-product-fits : tie.Need-mul-result
+pages-product-fits c = omega (arith, pages-few c)
 
-pages-sum : tie.Need-add-result
-pages-sum c = omega (arith, pages-few c)
+pages-sum-fits : tie.Need-add-result
+pages-sum-fits c = omega (arith, pages-few c)
 
 quads-fit : tie.Need-mul-result-2
 quads-fit c = omega (arith, quads-few c)
 
-quads-product : tie.Need-mul-result-3
-quads-product c = omega (arith, quads-few c)
+quads-product-fits : tie.Need-mul-result-3
+quads-product-fits c = omega (arith, quads-few c)
 
-sum : tie.Need-add-result-2
-sum c = omega (arith, pages-few (c .before .before), quads-few c)
+sum-fits : tie.Need-add-result-2
+sum-fits c = omega (arith, pages-few (c .before .before), quads-few c)
 
 returns : tie.Need-returns
 unfolding totalOf
@@ -44,10 +44,10 @@ total-spec =
     tie.close
     (tie.spec
     (λ c κs. search needs)
-    pages-product
-    pages-sum
+    pages-product-fits
+    pages-sum-fits
     (λ c κs. search needs)
     quads-fit
-    quads-product
-    sum
+    quads-product-fits
+    sum-fits
     returns)
