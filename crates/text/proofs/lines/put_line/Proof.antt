@@ -35,7 +35,7 @@ third-ends c = omega (arith, second-ends (second c), c .put-column .ensures .1)
 -- ---- each column fits
 
 second-fits : tie.Need-put-decimal-requires-2
-second-fits c κs = let before = c .before .before .before in omega (arith, one-digit before, before .put-decimal .ensures .1)
+second-fits c κs = let number = c .before .before .before in omega (arith, one-digit number, number .put-decimal .ensures .1)
 
 third-fits : tie.Need-put-column-requires
 third-fits c κs = ((omega arith, omega arith), omega (arith, second-ends (c .before .before .before)))
