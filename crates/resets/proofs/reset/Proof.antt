@@ -17,7 +17,12 @@ declined : tie.Need-returns
 unfolding resetOf
 declined c = rw (← c .before .before .reset-decline .ensures, sym (c .before .is-accepted .ensures) ∙ not-true _ (c .if1 .taken))
 
-accepted : (c : tie.Else1) → let a = c .before .before .before .before .before .before .args in
+-- the entry, from after the test
+abbrev entry : tie.Else1 → tie.Start
+entry c = c .before .before .before .before .before .before
+
+-- no decline applies
+accepted : (c : tie.Else1) → let a = entry c .args in
     acceptedOf (resetDeclineOf (a .g) (a .d) (length (a .one .now)) (length (a .two .now)) (length (a .sram .now)) (a .kind)) ≡ true
 accepted c = went-on (c .before .before .reset-decline .ensures) (c .before .is-accepted .ensures) (c .if1 .left)
 
@@ -36,9 +41,8 @@ carried : tie.Need-returns-2
 unfolding resetOf
 carried c =
     let torn = c .before .before .before .before .before .before .before .before in
-    let test = torn .before .before .before in
     rw (
-      accepted test,
+      accepted (torn .before .before .before),
       c .reset-device .ensures,
       c .before .compared .ensures,
       ap (λ (s : State). s .one) (torn .tear .ensures),

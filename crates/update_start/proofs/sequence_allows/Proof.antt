@@ -9,29 +9,43 @@ use Rattle.update_start.proofs.TestLaws.{differ, agree}
 use Rattle.update_start.proofs.sequence_allows.Statement.{statement}
 use Rattle.update_start.proofs.sequence_allows.Tie as tie
 
+-- ---- the entry, from after the first, the second and the third test
+
+abbrev entry : tie.Else1 → tie.Start
+entry c = c .before .before .before .before .before
+
+abbrev entry-kept : tie.Else2 → tie.Start
+entry-kept c = entry (c .before .before .before)
+
+abbrev entry-agreed : tie.Else3 → tie.Start
+entry-agreed c = entry-kept (c .before .before)
+
 -- ---- the clauses that hold after each test
 
-valid : (c : tie.Else1) → let a = c .before .before .before .before .before .args in lowerValidOf (a .g) (lent (a .d) (a .one) (a .two)) ≡ true
+valid : (c : tie.Else1) → let a = entry c .args in lowerValidOf (a .g) (lent (a .d) (a .one) (a .two)) ≡ true
 valid c = rw (← c .before .before .lower-word .ensures) (sym (c .before .is-valid .ensures) ∙ not-false _ (c .if1 .left))
 
-keeps : (c : tie.Else2) → let a = c .before .before .before .before .before .before .before .before .args in resetKeepsOf (a .g) (lent (a .d) (a .one) (a .two)) ≡ true
+keeps : (c : tie.Else2) → let a = entry-kept c .args in resetKeepsOf (a .g) (lent (a .d) (a .one) (a .two)) ≡ true
 keeps c =
     let has = c .before .before in
     rw (← c .before .compared .ensures, ← has .has .ensures) (agree (c .before .compared .result) (has .has .result) (c .if2 .left))
 
-swaps : (c : tie.Else3) → let a = c .before .before .before .before .before .before .before .before .before .before .args in swapsAgreeOf (lent (a .d) (a .one) (a .two)) ≡ true
+swaps : (c : tie.Else3) → let a = entry-agreed c .args in swapsAgreeOf (lent (a .d) (a .one) (a .two)) ≡ true
 swaps c =
     let has = c .before .before .before .before in
     rw (← c .before .has2 .ensures, ← has .has .ensures) (agree (c .before .has2 .result) (has .has .result) (c .if3 .left))
 
 -- ---- what each call asks for, and what each return gives
 
+given : tie.Need-lower-word-requires
+given c κs = c .before .before .pre
+
 invalid : tie.Need-returns
 unfolding sequenceAllowsOf
 invalid c = rw (← c .before .before .lower-word .ensures, sym (c .before .is-valid .ensures) ∙ not-true _ (c .if1 .taken))
 
 lengths : tie.Need-compared-requires
-lengths c κs = let start = c .before .before .before .before .before .before in (start .pre .0, start .pre .1)
+lengths c κs = let start = entry (c .before) in (start .pre .0, start .pre .1)
 
 chosen : tie.Need-returns-2
 unfolding sequenceAllowsOf
@@ -47,7 +61,7 @@ swapped c =
     rw (valid (has .before), keeps kept, ← c .before .has2 .ensures, ← has .has .ensures, differ _ _ (c .if3 .taken))
 
 exchanged : tie.Need-lower-word-requires-2
-exchanged c κs = let start = c .before .before .before .before .before .before .before .before .before .before in (start .pre .0, (start .pre .1 .1, start .pre .1 .0))
+exchanged c κs = let start = entry-agreed c in (start .pre .0, (start .pre .1 .1, start .pre .1 .0))
 
 other-valid : tie.Need-returns-4
 unfolding sequenceAllowsOf
@@ -82,7 +96,7 @@ pub sequence-allows-spec : {M : Type 1} → statement M
 sequence-allows-spec =
     tie.close
     (tie.spec
-    (λ c κs. c .before .before .pre)
+    given
     (λ c κs. search needs)
     invalid
     (λ c κs. search needs)

@@ -23,28 +23,42 @@ declined c =
     let e = c .before .before .common-decline .ensures in
     rw (stopped e (c .before .is-accepted .ensures) (c .if1 .taken)) e
 
+-- ---- the entry, from after the first, the second, the third and the fourth test
+
+abbrev entry : tie.Else1 → tie.Start
+entry c = c .before .before .before .before .before
+
+abbrev entry-idle : tie.Else2 → tie.Start
+entry-idle c = entry (c .before .before)
+
+abbrev entry-allowed : tie.Else3 → tie.Start
+entry-allowed c = entry-idle (c .before .before)
+
+abbrev entry-next : tie.Else4 → tie.Start
+entry-next c = entry-allowed (c .before .before .before)
+
 -- ---- what holds after each test that does not decline
 
 -- none of declines 1 to 3 applies
-accepted : (c : tie.Else1) → let a = c .before .before .before .before .before .args in
+accepted : (c : tie.Else1) → let a = entry c .args in
     acceptedOf (commonDeclineOf (a .g) (a .d) (length (a .one .now) ∷ length (a .two .now) ∷ a .image ∷ []) 0) ≡ true
 accepted c = went-on (c .before .before .common-decline .ensures) (c .before .is-accepted .ensures) (c .if1 .left)
 
-opened : (c : tie.Else1) → let a = c .before .before .before .before .before .args in
+opened : (c : tie.Else1) → let a = entry c .args in
     Ready (a .g) (a .d) (length (a .one .now) ∷ length (a .two .now) ∷ a .image ∷ []) 0
 opened c = ready _ _ _ _ (accepted c)
 
 -- no operation runs
-idle : (c : tie.Else2) → running (c .before .before .before .before .before .before .before .args .d) ≡ false
+idle : (c : tie.Else2) → running (entry-idle c .args .d) ≡ false
 idle c = sym (c .before .has .ensures) ∙ c .if2 .left
 
 -- decline 10 does not apply
-allowed : (c : tie.Else3) → let a = c .before .before .before .before .before .before .before .before .before .args in
+allowed : (c : tie.Else3) → let a = entry-allowed c .args in
     sequenceAllowsOf (a .g) (lent (a .d) (a .one) (a .two)) ≡ true
 allowed c = sym (c .before .sequence-allows .ensures) ∙ not-false _ (c .if3 .left)
 
 -- decline 11 does not apply
-next : (c : tie.Else4) → let a = c .before .before .before .before .before .before .before .before .before .before .before .before .args in
+next : (c : tie.Else4) → let a = entry-next c .args in
     eqb (tseqOf (lowerWordOf (a .g) (lent (a .d) (a .one) (a .two)))) 65535 ≡ false
 next c = rw (← c .before .before .lower-word .ensures, ← c .before .tseq .ensures) (ne-eqb _ _ (c .if4 .left))
 

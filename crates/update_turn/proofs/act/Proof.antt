@@ -17,6 +17,19 @@ use Rattle.update.proofs.FormLaws.{step-carried}
 use Rattle.update_turn.proofs.act.Statement.{statement}
 use Rattle.update_turn.proofs.act.Tie as tie
 
+-- ---- the test of WR, from a store and from a step, and the entry from there
+
+abbrev store-test : tie.Else1 → tie.After-has
+store-test c = c .before .before .before .before
+
+abbrev step-test : tie.Else2 → tie.After-has
+step-test c = c .before .before .before
+
+abbrev entry : tie.After-has → tie.Start
+entry c = c .before .before .before .before
+
+-- ---- a store
+
 store-declined : tie.Need-returns
 unfolding actOf
 store-declined c =
@@ -24,32 +37,35 @@ store-declined c =
     let known = test .before .before in
     rw (c .unchanged .ensures, known .action .given .1, sym (known .before .before .has .ensures) ∙ test .if1 .taken) (refl, λ e. true-not-false (sym e))
 
+-- no operation runs
+idle : (c : tie.Else1) → running (entry (store-test c) .args .d) ≡ false
+idle c = sym (store-test c .has .ensures) ∙ c .if1 .left
+
 ranged : tie.Need-store-accepted-requires
-ranged c κs = let start = c .before .before .before .before .before .before .before .before in in-range (start .args .g) (start .pre .0)
+ranged c κs = let start = entry (store-test c) in in-range (start .args .g) (start .pre .0)
 
 few : tie.Need-going-requires
-few c κs =
-    let start = c .before .before .before .before .before .before .before .before .before .before in
-    start .pre .1 .1 .1 .1 .1
+few c κs = entry (store-test (c .before .before)) .pre .1 .1 .1 .1 .1
 
 stored : tie.Need-returns-3
 unfolding actOf
 stored c =
     let test = c .before .before .before in
     let known = test .before .before in
-    let start = known .before .before .before .before .before .before in
+    let start = entry (store-test test) in
     let a = start .args in
-    let off : running (a .d) ≡ false = sym (known .before .before .has .ensures) ∙ test .if1 .left in
     let rest : AtRest (a .g) (a .d) =
-    record { listed = start .pre .0; range = in-range (a .g) (start .pre .0); possible = start .pre .1 .0; idle = off } in
+    record { listed = start .pre .0; range = in-range (a .g) (start .pre .0); possible = start .pre .1 .0; idle = idle test } in
     rw (
       c .going .ensures,
       c .before .no-write .ensures,
       known .action .given .1,
-      off,
+      idle test,
       store-runs (a .g) (a .d) rest _ _ _ (rw (known .action .given .1) at (start .pre .1 .1 .1 .1 .0)),
       c .before .before .store-accepted .ensures,
     ) (refl, λ e. true-not-false (sym e))
+
+-- ---- a step
 
 step-declined : tie.Need-returns-2
 unfolding actOf
@@ -59,34 +75,33 @@ step-declined c =
     rw (c .unchanged2 .ensures, known .enum-told .given .1, sym (known .before .before .has .ensures) ∙ not-true _ (test .if2 .taken))
     (refl, λ e. true-not-false (sym e))
 
+-- an operation runs
+busy : (c : tie.Else2) → running (entry (step-test c) .args .d) ≡ true
+busy c = sym (step-test c .has .ensures) ∙ not-false (step-test c .has .result) (c .if2 .left)
+
 steps : tie.Need-step-effect-requires
 steps c κs =
-    let known = c .before in
-    let start = known .before .before .before .before .before .before in
+    let start = entry (step-test c) in
     let a = start .args in
-    let on = sym (known .before .before .has .ensures) ∙ not-false (known .before .before .has .result) (c .if2 .left) in
-    (runs (a .g) (a .d) (in-range (a .g) (start .pre .0)) (start .pre .1 .0) on, start .pre .1 .1 .0)
+    (runs (a .g) (a .d) (in-range (a .g) (start .pre .0)) (start .pre .1 .0) (busy c), start .pre .1 .1 .0)
 
 few-steps : tie.Need-going-requires-2
-few-steps c κs =
-    let start = c .before .before .before .before .before .before .before .before .before .before in
-    start .pre .1 .1 .1 .1 .1
+few-steps c κs = entry (step-test (c .before .before .before)) .pre .1 .1 .1 .1 .1
 
 stepped : tie.Need-returns-4
 unfolding actOf
 stepped c =
     let effect = c .before .before .before in
     let test = effect .before in
-    let known = test .before in
-    let start = known .before .before .before .before .before .before in
+    let on = busy test in
+    let start = entry (step-test test) in
     let a = start .args in
-    let on : running (a .d) ≡ true = sym (known .before .before .has .ensures) ∙ not-false (known .before .before .has .result) (test .if2 .left) in
     let s = lent (a .d) (a .one) (a .two) in
     let sound : Sound (a .g) s = record { possible = start .pre .1 .0; first = start .pre .1 .1 .0 .0; other = start .pre .1 .1 .0 .1 } in
     rw (
       c .going2 .ensures,
       effect .step-effect .ensures,
-      known .enum-told .given .1,
+      test .before .enum-told .given .1,
       on,
       step-carried (a .g) s (a .sram .now) (start .pre .0) sound (start .pre .1 .1 .1 .0) on,
       advance-accepts,

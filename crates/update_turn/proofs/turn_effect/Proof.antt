@@ -24,12 +24,16 @@ declined c =
     let off = stopped (common .common-decline .ensures) (test .before .is-accepted .ensures) (test .if1 .taken) in
     rw (c .unchanged .ensures, off, off, common .common-decline .ensures) (refl, λ e. true-not-false (sym e))
 
+-- the entry, from after the first test
+abbrev entry : tie.Else1 → tie.Start
+entry c = c .before .before .before .before .before .before .before
+
 -- none of declines 1 to 3 applies
-accepted : (c : tie.Else1) → let a = c .before .before .before .before .before .before .before .args in
+accepted : (c : tie.Else1) → let a = entry c .args in
     acceptedOf (commonDeclineOf (a .g) (a .d) (length (a .one .now) ∷ length (a .two .now) ∷ length (a .image .now) ∷ []) (length (a .sram .now))) ≡ true
 accepted c = went-on (c .before .before .common-decline .ensures) (c .before .is-accepted .ensures) (c .if1 .left)
 
-opened : (c : tie.Else1) → let a = c .before .before .before .before .before .before .before .args in
+opened : (c : tie.Else1) → let a = entry c .args in
     Ready (a .g) (a .d) (length (a .one .now) ∷ length (a .two .now) ∷ length (a .image .now) ∷ []) (length (a .sram .now))
 opened c = ready _ _ _ _ (accepted c)
 
@@ -41,7 +45,7 @@ unfolding turnOf turnDeclineOf
 past c =
     let test = c .before in
     let total = test .before in
-    let a = total .before .before .before .before .before .before .before .before .args in
+    let a = entry (total .before) .args in
     rw (
       c .unchanged2 .ensures,
       accepted (total .before),
@@ -55,7 +59,7 @@ unfolding turnOf turnDeclineOf
 done c =
     let test = c .before in
     let total = test .before .before in
-    let a = total .before .before .before .before .before .before .before .before .args in
+    let a = entry (total .before) .args in
     rw (
       c .unchanged3 .ensures,
       accepted (total .before),
@@ -80,7 +84,7 @@ acting : tie.Need-act-requires
 acting c κs =
     let below = c .before .before in
     let total = below .before .before in
-    let a = total .before .before .before .before .before .before .before .before .args in
+    let a = entry (total .before) .args in
     let r = opened (total .before) in
     let high = total-high (a .g) (r .lent .range) in (
       r .lent .listed,
@@ -104,7 +108,7 @@ unfolding turnOf turnDeclineOf actOf
 carried c =
     let below = c .before .before .before in
     let total = below .before .before in
-    let a = total .before .before .before .before .before .before .before .before .args in
+    let a = entry (total .before) .args in
     rw (
       accepted (total .before),
       ← total .total .ensures,

@@ -18,7 +18,12 @@ declined : tie.Need-returns
 unfolding stepOf
 declined c = rw (← c .before .before .step-decline .ensures, sym (c .before .is-accepted .ensures) ∙ not-true _ (c .if1 .taken))
 
-accepted : (c : tie.Else1) → let a = c .before .before .before .before .before .before .args in
+-- the entry, from after the first test
+abbrev entry : tie.Else1 → tie.Start
+entry c = c .before .before .before .before .before .before
+
+-- no decline applies
+accepted : (c : tie.Else1) → let a = entry c .args in
     acceptedOf (stepDeclineOf (a .g) (a .d) (length (a .one .now)) (length (a .two .now)) (length (a .sram .now))) ≡ true
 accepted c = went-on (c .before .before .step-decline .ensures) (c .before .is-accepted .ensures) (c .if1 .left)
 
@@ -30,8 +35,9 @@ runs c κs =
 fits : tie.Need-apply-requires
 fits c κs =
     let effect = c .before .before .before in
-    let a = effect .before .before .before .before .before .before .before .before .before .args in
-    let (ready, on, _) = step-ready _ _ _ _ _ (accepted (effect .before .before .before)) in
+    let test = effect .before .before .before in
+    let a = entry test .args in
+    let (ready, on, _) = step-ready _ _ _ _ _ (accepted test) in
     rw (ap (λ (e : StepEffect). e .write) (effect .step-effect .ensures))
     (effect-fits _ (lent (a .d) (a .one) (a .two)) (a .sram .now) on (ready .lent .banks .0, ready .lent .banks .1 .0))
 
