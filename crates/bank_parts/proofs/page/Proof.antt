@@ -1,6 +1,6 @@
 -- Accepted, the part from the page's first word; declined, the empty part.
 use mathlib.Core.Path.{_≡_, sym, ap, _∙_}
-use mathlib.Core.Bool.{true}
+use mathlib.Core.Bool.{true, false}
 use Prim.Native.Nat.{_+_, _*_, _≤_}
 use native.Mathlib.Nat.{add-sub-cancel-left}
 use native.Mathlib.Omega.{arith}
@@ -19,33 +19,60 @@ accepted : (c : tie.Then1) → let a = c .before .before .before .before .args i
 accepted c =
     ap acceptedOf (sym (c .before .before .page-decline .ensures)) ∙ sym (c .before .is-accepted .ensures) ∙ c .if1 .taken
 
+declined : (c : tie.Else1) → let a = c .before .before .before .before .args in
+    acceptedOf (pageDeclineOf (a .g) (length (a .bank .now)) (a .page)) ≡ false
+declined c =
+    ap acceptedOf (sym (c .before .before .page-decline .ensures)) ∙ sym (c .before .is-accepted .ensures) ∙ c .if1 .left
+
 lies : (c : tie.Then1) → let a = c .before .before .before .before .args in
     InRange (a .g) × (a .page * pageWordsOf (a .g) + pageWordsOf (a .g) ≤ length (a .bank .now))
 lies c = let a = c .before .before .before .before .args in page-lies (a .g) (length (a .bank .now)) (a .page) (accepted c)
+
+ranged : tie.Need-page-words-requires
+ranged c κs = lies c .0
 
 room : (c : tie.After-page-words) → let a = c .before .before .before .before .before .args in
     a .page * c .page-words .result + c .page-words .result ≤ length (a .bank .now)
 room c = rw (c .page-words .ensures) (lies (c .before) .1)
 
-pub page-spec : {M : Type 1} → statement M
+start-fits : tie.Need-mul-start
+start-fits c = omega (arith, room c)
+
+end-fits : tie.Need-add-end
+end-fits c = omega (arith, room c)
+
+first-fits : tie.Need-mul-result
+first-fits c = omega (arith, room c)
+
+end-lies : tie.Need-part-result-end
+end-lies c = omega (arith, room c)
+
+the-page : tie.Need-returns
 unfolding pagePartOf
+the-page c =
+    let words = c .before .page-words .ensures in
+    (λ h. rw words, rw (accepted (c .before .before), add-sub-cancel-left, words))
+
+empty : tie.Need-returns-2
+unfolding pagePartOf
+empty c = (λ h. true-not-false (sym h ∙ declined (c .before)), rw (declined (c .before)))
+
+pub page-spec : {M : Type 1} → statement M
 page-spec =
     tie.close
     (tie.spec
     (λ c κs. search needs)
     (λ c κs. search needs)
-    (λ c κs. lies c .0)
+    ranged
     (λ c. search needs)
-    (λ c. omega (arith, room c))
-    (λ c. omega (arith, room c))
-    (λ c. omega (arith, room c))
-    (λ c. search needs)
-    (λ c. search needs)
-    (λ c. omega (arith, room c))
-    (λ c. (λ h. rw (c .before .page-words .ensures), rw (accepted (c .before .before), add-sub-cancel-left, c .before .page-words .ensures)))
+    start-fits
+    end-fits
+    first-fits
     (λ c. search needs)
     (λ c. search needs)
+    end-lies
+    the-page
     (λ c. search needs)
-    (λ c.
-    let declined = ap acceptedOf (sym (c .before .before .before .page-decline .ensures)) ∙ sym (c .before .before .is-accepted .ensures) ∙ c .before .if1 .left in
-    (λ h. true-not-false (sym h ∙ declined), rw declined)))
+    (λ c. search needs)
+    (λ c. search needs)
+    empty)

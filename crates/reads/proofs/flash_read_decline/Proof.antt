@@ -1,25 +1,83 @@
 -- The first test that fails decides.
 use borrow.Author.Needs.{needs}
 use borrow.Author.Tests.{not-true, not-false}
-use mathlib.Core.Path.{sym, _∙_}
+use mathlib.Core.Bool.{true}
+use mathlib.Core.List.{[], _∷_}
+use mathlib.Core.Path.{_≡_, sym, _∙_}
+use Rattle.words.specs.Decline.{acceptedOf}
 use Rattle.words.proofs.DeclineLaws.{stopped, went-on}
-use Rattle.common_declines.proofs.CommonDeclineLaws.{ready}
-use Rattle.reads.specs.Read.{flashReadDeclineOf}
+use Rattle.common_declines.specs.CommonDecline.{commonDeclineOf}
+use Rattle.common_declines.proofs.CommonDeclineLaws.{Ready, ready}
+use Rattle.reads.specs.Read.{flashReadDeclineOf, readableOf}
 use Rattle.reads.proofs.flash_read_decline.Statement.{statement}
 use Rattle.reads.proofs.flash_read_decline.Tie as tie
 
-pub flash-read-decline-spec : {M : Type 1} → statement M
+declined : tie.Need-returns
 unfolding flashReadDeclineOf
+declined c =
+    let e = c .before .before .common-decline .ensures in
+    rw (stopped e (c .before .is-accepted .ensures) (c .if1 .taken)) e
+
+-- none of declines 1 to 3 applies
+accepted : (c : tie.Else1) → let a = c .before .before .before .args in
+    acceptedOf (commonDeclineOf (a .g) (a .d) (a .one ∷ a .two ∷ []) 0) ≡ true
+accepted c = went-on (c .before .before .common-decline .ensures) (c .before .is-accepted .ensures) (c .if1 .left)
+
+opened : (c : tie.Else1) → let a = c .before .before .before .args in Ready (a .g) (a .d) (a .one ∷ a .two ∷ []) 0
+opened c = ready _ _ _ _ (accepted c)
+
+ranged : tie.Need-is-readable-requires
+ranged c κs = opened c .lent .range
+
+unreadable : tie.Need-returns-2
+unfolding flashReadDeclineOf
+unreadable c = rw (accepted (c .before .before), sym (c .before .is-readable .ensures) ∙ not-true _ (c .if2 .taken))
+
+-- decline 8 does not apply
+readable : (c : tie.Else2) → let a = c .before .before .before .before .before .args in readableOf (a .g) (a .address) ≡ true
+readable c = sym (c .before .is-readable .ensures) ∙ not-false _ (c .if2 .left)
+
+located : tie.Need-locate-requires
+located c κs = opened (c .before .before) .lent .range
+
+possible : tie.Need-is-free-requires
+possible c κs = let r = opened (c .before .before .before .before) in (r .lent .range, r .possible)
+
+busy : tie.Need-returns-3
+unfolding flashReadDeclineOf
+busy c =
+    let place = c .before .before .before in
+    rw (
+      accepted (place .before .before .before),
+      readable (place .before),
+      ← place .locate .ensures,
+      ← c .before .before .second-at .ensures,
+      sym (c .before .is-free .ensures) ∙ not-true _ (c .if3 .taken),
+    )
+
+free : tie.Need-returns-4
+unfolding flashReadDeclineOf
+free c =
+    let place = c .before .before .before in
+    rw (
+      accepted (place .before .before .before),
+      readable (place .before),
+      ← place .locate .ensures,
+      ← c .before .before .second-at .ensures,
+      sym (c .before .is-free .ensures) ∙ not-false _ (c .if3 .left),
+    )
+
+pub flash-read-decline-spec : {M : Type 1} → statement M
 flash-read-decline-spec =
     tie.close
     (tie.spec
     (λ c κs. search needs)
     (λ c κs. search needs)
-    (λ c. let e = c .before .before .common-decline .ensures in rw (stopped e (c .before .is-accepted .ensures) (c .if1 .taken)) e)
-    (λ c κs. ready (c .before .before .before .args .g) (c .before .before .before .args .d) _ _ (went-on (c .before .before .common-decline .ensures) (c .before .is-accepted .ensures) (c .if1 .left)) .lent .range)
-    (λ c. rw (went-on (c .before .before .before .before .common-decline .ensures) (c .before .before .before .is-accepted .ensures) (c .before .before .if1 .left), sym (c .before .is-readable .ensures) ∙ not-true _ (c .if2 .taken)))
-    (λ c κs. ready (c .before .before .before .before .before .args .g) (c .before .before .before .before .before .args .d) _ _ (went-on (c .before .before .before .before .common-decline .ensures) (c .before .before .before .is-accepted .ensures) (c .before .before .if1 .left)) .lent .range)
+    declined
+    ranged
+    unreadable
+    located
     (λ c κs. search needs)
-    (λ c κs. let r = ready (c .before .before .before .before .before .before .before .args .g) (c .before .before .before .before .before .before .before .args .d) _ _ (went-on (c .before .before .before .before .before .before .common-decline .ensures) (c .before .before .before .before .before .is-accepted .ensures) (c .before .before .before .before .if1 .left)) in (r .lent .range, r .possible))
-    (λ c. rw (went-on (c .before .before .before .before .before .before .before .before .common-decline .ensures) (c .before .before .before .before .before .before .before .is-accepted .ensures) (c .before .before .before .before .before .before .if1 .left), sym (c .before .before .before .before .before .is-readable .ensures) ∙ not-false _ (c .before .before .before .before .if2 .left), ← c .before .before .before .locate .ensures, ← c .before .before .second-at .ensures, sym (c .before .is-free .ensures) ∙ not-true _ (c .if3 .taken)))
-    (λ c. rw (went-on (c .before .before .before .before .before .before .before .before .common-decline .ensures) (c .before .before .before .before .before .before .before .is-accepted .ensures) (c .before .before .before .before .before .before .if1 .left), sym (c .before .before .before .before .before .is-readable .ensures) ∙ not-false _ (c .before .before .before .before .if2 .left), ← c .before .before .before .locate .ensures, ← c .before .before .second-at .ensures, sym (c .before .is-free .ensures) ∙ not-false _ (c .if3 .left))))
+    possible
+    busy
+    free)

@@ -6,20 +6,33 @@ use Rattle.register_access.proofs.AcceptedLaws.{store-at-rest}
 use Rattle.register_access.proofs.store.Statement.{statement}
 use Rattle.register_access.proofs.store.Tie as tie
 
-pub store-spec : {M : Type 1} → statement M
+ranged : tie.Need-store-accepted-requires
+ranged c κs =
+    let decline = c .before .before in
+    let a = decline .before .args in
+    let accepted = rw (decline .store-decline .ensures) at (sym (c .before .is-accepted .ensures) ∙ c .if1 .taken) in
+    store-at-rest (a .g) (a .d) (a .number) (a .form) accepted .0 .range
+
+stored : tie.Need-returns
 unfolding storeOf
+stored c =
+    let test = c .before in
+    rw (
+      c .store-accepted .ensures,
+      ← test .before .before .store-decline .ensures,
+      sym (test .before .is-accepted .ensures) ∙ test .if1 .taken,
+    )
+
+declined : tie.Need-returns-2
+unfolding storeOf
+declined c = rw (← c .before .before .store-decline .ensures, sym (c .before .is-accepted .ensures) ∙ c .if1 .left)
+
+pub store-spec : {M : Type 1} → statement M
 store-spec =
     tie.close
     (tie.spec
     (λ c κs. search needs)
     (λ c κs. search needs)
-    (λ c κs. store-at-rest (c .before .before .before .args .g) (c .before .before .before .args .d) (c .before .before .before .args .number) (c .before .before .before .args .form) (rw (c .before .before .store-decline .ensures) at (sym (c .before .is-accepted .ensures) ∙ c .if1 .taken)) .0 .range)
-    (λ c. rw (
-      c .store-accepted .ensures,
-      ← c .before .before .before .store-decline .ensures,
-      sym (c .before .before .is-accepted .ensures) ∙ c .before .if1 .taken,
-    ))
-    (λ c. rw (
-      ← c .before .before .store-decline .ensures,
-      sym (c .before .is-accepted .ensures) ∙ c .if1 .left,
-    )))
+    ranged
+    stored
+    declined)

@@ -5,6 +5,21 @@ use Rattle.sequence.proofs.SequenceLaws.{sequence-in-bank}
 use Rattle.resets.proofs.compared.Statement.{statement}
 use Rattle.resets.proofs.compared.Tie as tie
 
+first-lies : tie.Need-shared-slice-read-bfswap
+first-lies c =
+    let index = c .before in
+    let start = index .before .before .before in
+    rw (index .sequence-index .ensures) (omega (arith, sequence-in-bank (start .args .g) (start .pre .0), start .pre .1 .0))
+
+second-lies : tie.Need-shared-slice-read-bfswap-2
+second-lies c =
+    let index = c .before .before in
+    let start = index .before .before .before in
+    rw (index .sequence-index .ensures) (omega (arith, sequence-in-bank (start .args .g) (start .pre .0), start .pre .1 .1))
+
+compares : tie.Need-returns
+compares c = rw (c .bfswap .ensures, c .before .before .before .sequence-index .ensures)
+
 pub compared-spec : {M : Type 1} → statement M
 compared-spec =
     tie.close
@@ -12,11 +27,8 @@ compared-spec =
     (λ c κs. search needs)
     (λ c. search needs)
     (λ c. search needs)
-    (λ c. rw (c .before .sequence-index .ensures) (omega (arith, sequence-in-bank (c .before .before .before .before .args .g) (c .before .before .before .before .pre .0), c .before .before .before .before .pre .1 .0)))
+    first-lies
     (λ c. search needs)
-    (λ c. rw (c .before .before .sequence-index .ensures) (omega (arith, sequence-in-bank (c .before .before .before .before .before .args .g) (c .before .before .before .before .before .pre .0), c .before .before .before .before .before .pre .1 .1)))
+    second-lies
     (λ c κs. search needs)
-    (λ c. rw (
-      c .bfswap .ensures,
-      c .before .before .before .sequence-index .ensures,
-    )))
+    compares)

@@ -6,16 +6,25 @@ use Rattle.flash.specs.Effect.{blockedOf}
 use Rattle.flash.proofs.effect.is_blocked.Statement.{statement}
 use Rattle.flash.proofs.effect.is_blocked.Tie as tie
 
-pub is-blocked-spec : {M : Type 1} → statement M
+in-program : tie.Need-returns
 unfolding blockedOf
+in-program c = rw (c .if1 .taken)
+
+low : tie.Need-is-boot-protected-requires
+low c κs =
+    let start = c .before .before in
+    let below = page-below (start .args .g) (start .pre .0) (start .args .l) (omega (arith, start .pre .1)) in
+    rw (c .page .ensures) (omega (arith, start .pre .0 .b-high, rw (c .before .if1 .left) at below))
+
+in-boot : tie.Need-returns-2
+unfolding blockedOf
+in-boot c = rw (c .is-boot-protected .ensures, c .before .page .ensures, c .before .before .if1 .left)
+
+pub is-blocked-spec : {M : Type 1} → statement M
 is-blocked-spec =
     tie.close
     (tie.spec
-    (λ c. rw (c .if1 .taken))
+    in-program
     (λ c κs. search needs)
-    (λ c κs. rw (c .page .ensures) (omega (arith, c .before .before .pre .0 .b-high, rw (c .before .if1 .left) at (page-below (c .before .before .args .g) (c .before .before .pre .0) (c .before .before .args .l) (omega (arith, c .before .before .pre .1))))))
-    (λ c. rw (
-      c .is-boot-protected .ensures,
-      c .before .page .ensures,
-      c .before .before .if1 .left,
-    )))
+    low
+    in-boot)

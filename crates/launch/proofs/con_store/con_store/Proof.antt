@@ -5,8 +5,31 @@ use Rattle.launch.specs.ConStore.{conStoreOf}
 use Rattle.launch.proofs.con_store.con_store.Statement.{statement}
 use Rattle.launch.proofs.con_store.con_store.Tie as tie
 
-pub con-store-spec : {M : Type 1} → statement M
+launched : tie.Need-returns
 unfolding conStoreOf
+launched c =
+    let test = c .before in
+    let new = test .before .before in
+    rw (
+      c .launch .ensures,
+      new .new .ensures,
+      new .before .merge .ensures,
+      new .before .before .con-takes .ensures,
+      sym (test .before .launches .ensures) ∙ test .if1 .taken,
+    )
+
+only-taken : tie.Need-returns-2
+unfolding conStoreOf
+only-taken c =
+    let new = c .before .before in
+    rw (
+      new .new .ensures,
+      new .before .merge .ensures,
+      new .before .before .con-takes .ensures,
+      sym (c .before .launches .ensures) ∙ c .if1 .left,
+    )
+
+pub con-store-spec : {M : Type 1} → statement M
 con-store-spec =
     tie.close
     (tie.spec
@@ -15,5 +38,5 @@ con-store-spec =
     (λ c. search needs)
     (λ c. search needs)
     (λ c. search needs)
-    (λ c. rw (c .launch .ensures, c .before .before .before .new .ensures, c .before .before .before .before .merge .ensures, c .before .before .before .before .before .con-takes .ensures, sym (c .before .before .launches .ensures) ∙ c .before .if1 .taken))
-    (λ c. rw (c .before .before .new .ensures, c .before .before .before .merge .ensures, c .before .before .before .before .con-takes .ensures, sym (c .before .launches .ensures) ∙ c .if1 .left)))
+    launched
+    only-taken)
