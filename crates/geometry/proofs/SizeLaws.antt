@@ -10,7 +10,8 @@ use lib.Dec.{eqb, leb}
 use borrow.Author.Tests.{leb-true, eqb-true}
 use Rattle.words.proofs.PickLaws.{and-both}
 use Rattle.geometry.specs.declared.banks.Geometry.{Geometry}
-use Rattle.geometry.specs.Banks.{oneOf, rowSizes, listedOf, mostBootPages, mostProgramPages, inRangeOf, InRange, pagesOf, rowBytesOf, pageBytesOf, pageWordsOf, bankWordsOf, roundDownOf}
+use Rattle.geometry.specs.Banks.{oneOf, rowSizes, listedOf, mostBootPages, mostProgramPages, inRangeOf, InRange}
+use Rattle.geometry.specs.Banks.{pagesOf, rowBytesOf, pageBytesOf, pageWordsOf, bankWordsOf, roundDownOf}
 
 -- a test that holds of each number of a list holds of any number that is one of them
 all : (ℕ → Bool) → List ℕ → Bool

@@ -11,7 +11,8 @@ use Rattle.words.proofs.MaskLaws.{Within}
 use Rattle.device.specs.declared.record.Device.{Device}
 use Rattle.device.specs.Registers.{WREN, PFSWAP, BFSWAP, NVMOP, PWPULOCK, LBWPULOCK, UBWPULOCK, SWAPLOCK}
 use Rattle.device.specs.Record.{isOpen}
-use Rattle.register_fields.specs.Fields.{conTakesOf, pwpTakesOf, lowerTakesOf, upperTakesOf, bwpTakesOf, keyedTakesOf, swaplockTakesOf, con2TakesOf, keyNextOf}
+use Rattle.register_fields.specs.Fields.{conTakesOf, pwpTakesOf, lowerTakesOf, upperTakesOf, bwpTakesOf}
+use Rattle.register_fields.specs.Fields.{keyedTakesOf, swaplockTakesOf, con2TakesOf, keyNextOf}
 
 pub lower-high : (d : Device) → lowerTakesOf d ≤ 0x9F00
 lower-high d = pick-both (λ (x : ℕ). x ≤ 0x9F00) (hasOf (d .nvmbwp .0) LBWPULOCK) (omega arith) (omega arith)

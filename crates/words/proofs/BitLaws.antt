@@ -2,7 +2,8 @@
 -- Assumes nothing.
 use mathlib.Core.Path.{_≡_, refl, sym, ap, ap₂, _∙_}
 use Prim.Native.Nat.{ℕ, zero, suc, _+_, _-_, _*_, _/_, _%_, _^_, _≤_, _<_, min, max}
-use native.Mathlib.Nat.{mod-lt, div-self, zero-lt-suc, zero-mul, one-mul, pow-suc, mul-div-cancel-left, mul-mod-left, div-eq-of-lt, div-add-mod', div-one, mod-eq-of-lt, lt-of-lt-of-le}
+use native.Mathlib.Nat.{mod-lt, div-self, zero-lt-suc, zero-mul, one-mul, pow-suc, mul-div-cancel-left}
+use native.Mathlib.Nat.{mul-mod-left, div-eq-of-lt, div-add-mod', div-one, mod-eq-of-lt, lt-of-lt-of-le}
 use native.Mathlib.Omega.{arith}
 use native.Mathlib.Numerals.{add-one, one-add}
 use mathlib.Core.Bool.{Bool, true, false, not, _&&_, _||_}

@@ -7,26 +7,45 @@ use Rattle.map.specs.Windows.{inWindowOf}
 use Rattle.map.proofs.in_window.Statement.{statement}
 use Rattle.map.proofs.in_window.Tie as tie
 
-pub in-window-spec : {M : Type 1} → statement M
+below : tie.Need-returns
 unfolding inWindowOf
+below c = rw (c .outside .ensures, ← c .before .before .window-start .ensures, lt-leb _ _ (c .before .if1 .taken))
+
+past : tie.Need-returns-2
+unfolding inWindowOf
+past c =
+    let bytes = c .before .before in
+    let start = bytes .before .before in
+    let offset = start .before .args .address - start .window-start .result in
+    rw (
+      c .outside2 .ensures,
+      ← start .window-start .ensures,
+      ← bytes .window-bytes .ensures,
+      le-leb _ _ (bytes .before .if1 .left),
+      le-ltb offset (bytes .window-bytes .result) (omega (arith, c .before .if2 .taken)),
+    )
+
+inside : tie.Need-returns-3
+unfolding inWindowOf
+inside c =
+    let bytes = c .before in
+    let start = bytes .before .before in
+    let offset = start .before .args .address - start .window-start .result in
+    rw (
+      ← start .window-start .ensures,
+      ← bytes .window-bytes .ensures,
+      le-leb _ _ (bytes .before .if1 .left),
+      lt-ltb offset (bytes .window-bytes .result) (omega (arith, c .if2 .left)),
+    )
+
+pub in-window-spec : {M : Type 1} → statement M
 in-window-spec =
     tie.close
     (tie.spec
     (λ c κs. search needs)
-    (λ c κs. tt)
-    (λ c. rw (c .outside .ensures, ← c .before .before .window-start .ensures, lt-leb _ _ (c .before .if1 .taken)))
     (λ c κs. search needs)
-    (λ c κs. tt)
-    (λ c. rw (
-      c .outside2 .ensures,
-      ← c .before .before .before .before .window-start .ensures,
-      ← c .before .before .window-bytes .ensures,
-      le-leb _ _ (c .before .before .before .if1 .left),
-      le-ltb (c .before .before .before .before .before .args .address - c .before .before .before .before .window-start .result) (c .before .before .window-bytes .result) (omega (arith, c .before .if2 .taken)),
-    ))
-    (λ c. rw (
-      ← c .before .before .before .window-start .ensures,
-      ← c .before .window-bytes .ensures,
-      le-leb _ _ (c .before .before .if1 .left),
-      lt-ltb (c .before .before .before .before .args .address - c .before .before .before .window-start .result) (c .before .window-bytes .result) (omega (arith, c .if2 .left)),
-    )))
+    below
+    (λ c κs. search needs)
+    (λ c κs. search needs)
+    past
+    inside)

@@ -7,17 +7,25 @@ use Rattle.register_fields.proofs.FieldLaws.{lower-high, upper-high}
 use Rattle.register_fields.proofs.bwp_takes.Statement.{statement}
 use Rattle.register_fields.proofs.bwp_takes.Tie as tie
 
-pub bwp-takes-spec : {M : Type 1} → statement M
+none : tie.Need-returns
 unfolding bwpTakesOf
+none c = rw (ne-eqb _ _ (c .if1 .taken))
+
+sum-fits : tie.Need-add-result
+sum-fits c =
+    let d = c .before .before .before .before .args .d in
+    rw (c .before .lower-takes .ensures, c .upper-takes .ensures) (omega (arith, lower-high d, upper-high d))
+
+both : tie.Need-returns-2
+unfolding bwpTakesOf
+both c = rw (c .before .lower-takes .ensures, c .upper-takes .ensures, eq-eqb _ _ (c .before .before .if1 .left))
+
+pub bwp-takes-spec : {M : Type 1} → statement M
 bwp-takes-spec =
     tie.close
     (tie.spec
-    (λ c. rw (ne-eqb _ _ (c .if1 .taken)))
+    none
     (λ c κs. search needs)
     (λ c κs. search needs)
-    (λ c. rw (c .before .lower-takes .ensures, c .upper-takes .ensures) (omega (arith, lower-high (c .before .before .before .before .args .d), upper-high (c .before .before .before .before .args .d))))
-    (λ c. rw (
-      c .before .lower-takes .ensures,
-      c .upper-takes .ensures,
-      eq-eqb _ _ (c .before .before .if1 .left),
-    )))
+    sum-fits
+    both)

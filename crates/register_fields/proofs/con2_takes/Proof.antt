@@ -6,17 +6,25 @@ use Rattle.register_fields.proofs.FieldLaws.{keyed-high, swaplock-high}
 use Rattle.register_fields.proofs.con2_takes.Statement.{statement}
 use Rattle.register_fields.proofs.con2_takes.Tie as tie
 
-pub con2-takes-spec : {M : Type 1} → statement M
+keyed-fits : tie.Need-add-result-2
+keyed-fits c = rw (c .keyed-takes .ensures) (omega (arith, keyed-high (c .before .args .d)))
+
+sum-fits : tie.Need-add-result-3
+sum-fits c =
+    let d = c .before .before .args .d in
+    rw (c .before .keyed-takes .ensures, c .swaplock-takes .ensures) (omega (arith, keyed-high d, swaplock-high d))
+
+both : tie.Need-returns
 unfolding con2TakesOf
+both c = rw (c .before .keyed-takes .ensures, c .swaplock-takes .ensures)
+
+pub con2-takes-spec : {M : Type 1} → statement M
 con2-takes-spec =
     tie.close
     (tie.spec
     (λ c. search needs)
     (λ c κs. search needs)
-    (λ c. rw (c .keyed-takes .ensures) (omega (arith, keyed-high (c .before .args .d))))
+    keyed-fits
     (λ c κs. search needs)
-    (λ c. rw (c .before .keyed-takes .ensures, c .swaplock-takes .ensures) (omega (arith, keyed-high (c .before .before .args .d), swaplock-high (c .before .before .args .d))))
-    (λ c. rw (
-      c .before .keyed-takes .ensures,
-      c .swaplock-takes .ensures,
-    )))
+    sum-fits
+    both)

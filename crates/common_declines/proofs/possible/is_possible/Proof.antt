@@ -1,41 +1,83 @@
 -- The first test that fails decides.
 use borrow.Author.Tests.{le-leb, lt-leb, not-true, not-false}
-use mathlib.Core.Path.{sym, _∙_}
+use mathlib.Core.Bool.{true}
+use mathlib.Core.Path.{_≡_, sym, _∙_}
+use lib.Dec.{leb}
 use borrow.Author.Needs.{needs}
 use native.Mathlib.Omega.{arith}
-use Rattle.common_declines.specs.Possible.{possibleOf}
+use Rattle.words.specs.Word.{hasOf}
+use Rattle.device.specs.Registers.{ALWAYS}
+use Rattle.common_declines.specs.Possible.{implementedOf, possibleOf}
 use Rattle.common_declines.proofs.possible.is_possible.Statement.{statement}
 use Rattle.common_declines.proofs.possible.is_possible.Tie as tie
 
-pub is-possible-spec : {M : Type 1} → statement M
+-- ---- what holds after each test
+
+implemented : (c : tie.Else1) → implementedOf (c .before .before .args .d) ≡ true
+implemented c = sym (c .before .is-implemented .ensures) ∙ not-false _ (c .if1 .left)
+
+-- NVMBWP bit 6 is set
+always : (c : tie.Else2) → hasOf (c .before .before .before .before .args .d .nvmbwp .0) ALWAYS ≡ true
+always c = sym (c .before .has .ensures) ∙ not-false _ (c .if2 .left)
+
+-- the key step is at most 3
+stepped : (c : tie.Else3) → leb (c .before .before .before .before .before .before .args .d .keystep) 3 ≡ true
+stepped c = le-leb (c .before .before .before .before .before .before .args .d .keystep) 3 (omega (arith, c .if3 .left))
+
+-- ---- what each return gives
+
+not-implemented : tie.Need-returns
 unfolding possibleOf
+not-implemented c = rw (sym (c .before .is-implemented .ensures) ∙ not-true _ (c .if1 .taken))
+
+not-always : tie.Need-returns-2
+unfolding possibleOf
+not-always c = rw (implemented (c .before .before), sym (c .before .has .ensures) ∙ not-true _ (c .if2 .taken))
+
+past-three : tie.Need-returns-3
+unfolding possibleOf
+past-three c =
+    let set = c .before .before in
+    let start = set .before .before .before .before in
+    rw (implemented (set .before .before), always set, lt-leb (start .args .d .keystep) 3 (omega (arith, c .if3 .taken)))
+
+runs : tie.Need-returns-4
+unfolding possibleOf
+runs c =
+    let test = c .before in
+    let step = test .before .before in
+    let set = step .before .before in
+    rw (
+      c .is-running .ensures,
+      implemented (set .before .before),
+      always set,
+      stepped step,
+      sym (test .before .has2 .ensures) ∙ test .if4 .taken,
+    )
+
+rests : tie.Need-returns-5
+unfolding possibleOf
+rests c =
+    let test = c .before in
+    let step = test .before .before in
+    let set = step .before .before in
+    rw (
+      implemented (set .before .before),
+      always set,
+      stepped step,
+      sym (test .before .has2 .ensures) ∙ test .if4 .left,
+    )
+
+pub is-possible-spec : {M : Type 1} → statement M
 is-possible-spec =
     tie.close
     (tie.spec
     (λ c κs. search needs)
-    (λ c. rw (sym (c .before .is-implemented .ensures) ∙ not-true _ (c .if1 .taken)))
+    not-implemented
     (λ c κs. search needs)
-    (λ c. rw (
-      sym (c .before .before .before .is-implemented .ensures) ∙ not-false _ (c .before .before .if1 .left),
-      sym (c .before .has .ensures) ∙ not-true _ (c .if2 .taken),
-    ))
-    (λ c. rw (
-      sym (c .before .before .before .before .before .is-implemented .ensures) ∙ not-false _ (c .before .before .before .before .if1 .left),
-      sym (c .before .before .before .has .ensures) ∙ not-false _ (c .before .before .if2 .left),
-      lt-leb (c .before .before .before .before .before .before .args .d .keystep) 3 (omega (arith, c .if3 .taken)),
-    ))
+    not-always
+    past-three
     (λ c κs. search needs)
     (λ c κs. search needs)
-    (λ c. rw (
-      c .is-running .ensures,
-      sym (c .before .before .before .before .before .before .before .before .is-implemented .ensures) ∙ not-false _ (c .before .before .before .before .before .before .before .if1 .left),
-      sym (c .before .before .before .before .before .before .has .ensures) ∙ not-false _ (c .before .before .before .before .before .if2 .left),
-      le-leb (c .before .before .before .before .before .before .before .before .before .args .d .keystep) 3 (omega (arith, c .before .before .before .if3 .left)),
-      sym (c .before .before .has2 .ensures) ∙ c .before .if4 .taken,
-    ))
-    (λ c. rw (
-      sym (c .before .before .before .before .before .before .before .before .is-implemented .ensures) ∙ not-false _ (c .before .before .before .before .before .before .before .if1 .left),
-      sym (c .before .before .before .before .before .before .has .ensures) ∙ not-false _ (c .before .before .before .before .before .if2 .left),
-      le-leb (c .before .before .before .before .before .before .before .before .before .args .d .keystep) 3 (omega (arith, c .before .before .before .if3 .left)),
-      sym (c .before .before .has2 .ensures) ∙ c .before .if4 .left,
-    )))
+    runs
+    rests)

@@ -1,35 +1,62 @@
 -- The first test that fails decides, and where none fails the last is the answer.
-use mathlib.Core.Path.{sym, _∙_}
+use mathlib.Core.Bool.{true}
+use mathlib.Core.Path.{_≡_, sym, _∙_}
+use lib.Dec.{leb}
 use borrow.Author.Tests.{le-leb, lt-leb, not-true, not-false}
-use Rattle.geometry.specs.Banks.{inRangeOf}
+use borrow.Author.Needs.{needs}
+use Rattle.geometry.specs.Banks.{listedOf, mostBootPages, inRangeOf}
 use Rattle.geometry.proofs.banks.in_range.Statement.{statement}
 use Rattle.geometry.proofs.banks.in_range.Tie as tie
 
-pub in-range-spec : {M : Type 1} → statement M
+-- ---- what holds after each test
+
+listed : (c : tie.Else1) → listedOf (c .before .before .args .g .q) ≡ true
+listed c = sym (c .before .is-listed .ensures) ∙ not-false _ (c .if1 .left)
+
+some-boot : (c : tie.Else2) → leb 1 (c .before .before .before .before .args .g .b) ≡ true
+some-boot c = le-leb _ _ (c .if2 .left)
+
+few-boot : (c : tie.Else3) → leb (c .before .before .before .before .before .before .args .g .b) mostBootPages ≡ true
+few-boot c = le-leb _ _ (c .if3 .left)
+
+-- ---- what each return gives
+
+unlisted : tie.Need-returns
 unfolding inRangeOf
+unlisted c = rw (sym (c .before .is-listed .ensures) ∙ not-true _ (c .if1 .taken))
+
+no-boot : tie.Need-returns-2
+unfolding inRangeOf
+no-boot c = rw (listed (c .before .before), lt-leb _ _ (c .if2 .taken))
+
+many-boot : tie.Need-returns-3
+unfolding inRangeOf
+many-boot c =
+    let some = c .before .before in
+    rw (listed (some .before .before), some-boot some, lt-leb _ _ (c .if3 .taken))
+
+no-program : tie.Need-returns-4
+unfolding inRangeOf
+no-program c =
+    let few = c .before .before in
+    let some = few .before .before in
+    rw (listed (some .before .before), some-boot some, few-boot few, lt-leb _ _ (c .if4 .taken))
+
+by-program : tie.Need-returns-5
+unfolding inRangeOf
+by-program c =
+    let program = c .before in
+    let few = program .before .before in
+    let some = few .before .before in
+    rw (listed (some .before .before), some-boot some, few-boot few, le-leb _ _ (program .if4 .left))
+
+pub in-range-spec : {M : Type 1} → statement M
 in-range-spec =
     tie.close
     (tie.spec
-    (λ c κs. tt)
-    (λ c. rw (sym (c .before .is-listed .ensures) ∙ not-true _ (c .if1 .taken)))
-    (λ c. rw (
-      sym (c .before .before .before .is-listed .ensures) ∙ not-false _ (c .before .before .if1 .left),
-      lt-leb _ _ (c .if2 .taken),
-    ))
-    (λ c. rw (
-      sym (c .before .before .before .before .before .is-listed .ensures) ∙ not-false _ (c .before .before .before .before .if1 .left),
-      le-leb _ _ (c .before .before .if2 .left),
-      lt-leb _ _ (c .if3 .taken),
-    ))
-    (λ c. rw (
-      sym (c .before .before .before .before .before .before .before .is-listed .ensures) ∙ not-false _ (c .before .before .before .before .before .before .if1 .left),
-      le-leb _ _ (c .before .before .before .before .if2 .left),
-      le-leb _ _ (c .before .before .if3 .left),
-      lt-leb _ _ (c .if4 .taken),
-    ))
-    (λ c. rw (
-      sym (c .before .before .before .before .before .before .before .before .is-listed .ensures) ∙ not-false _ (c .before .before .before .before .before .before .before .if1 .left),
-      le-leb _ _ (c .before .before .before .before .before .if2 .left),
-      le-leb _ _ (c .before .before .before .if3 .left),
-      le-leb _ _ (c .before .if4 .left),
-    )))
+    (λ c κs. search needs)
+    unlisted
+    no-boot
+    many-boot
+    no-program
+    by-program)
