@@ -21,9 +21,11 @@ MovedBack n source target i = Moved 4 inWords (λ k j. getD source (inLanes n k 
 -- ---- a round in the words of the code
 
 pub out-next : (source target : List ℕ) (n i : ℕ) → length target ≡ 4 * n → i < n → MovedOut n source target i
-    → MovedOut n source
-    (set (set (set (set target i (getD source (4 * i) 0)) (n + i) (getD source (4 * i + 1) 0)) (2 * n + i) (getD source (4 * i + 2) 0)) (3 * n + i) (getD source (4 * i + 3) 0))
-    (i + 1)
+    → let first = set target i (getD source (4 * i) 0) in
+    let second = set first (n + i) (getD source (4 * i + 1) 0) in
+    let third = set second (2 * n + i) (getD source (4 * i + 2) 0) in
+    let fourth = set third (3 * n + i) (getD source (4 * i + 3) 0) in
+    MovedOut n source fourth (i + 1)
 out-next source target n i kept h moved =
     rw (first-lane, second-lane, first-byte) at
     (moved-next 4 n (inLanes n) (λ k j. getD source (inWords k j) 0) target i apart (λ k l. rw kept (digits-lt l h)) h moved)

@@ -23,8 +23,10 @@ pub put-next : (g : Geometry) → InRange g → (d : Device) (bank : List ℕ) (
     ≡ sets before at (linesOf g d bank second program (suc page))
 put-next g ok d bank second program before at page l =
     let lines = linesOf g d bank second program page in
+    let next = lineOf (pageStateOf g d bank second program page) in
     let few : page ≤ 1000 = omega (arith, kind-few g ok program) in
-    rw (sets-after before at (at + 17 * page) lines (lineOf (pageStateOf g d bank second program page)) (omega (arith, lines-length g d bank second program page (ok .q-high) few)))
+    let size = lines-length g d bank second program page (ok .q-high) few in
+    rw (sets-after before at (at + 17 * page) lines next (omega (arith, size)))
 
 -- the boot pages, and then the program pages
 pub put-bank : (g : Geometry) → InRange g → (d : Device) (bank : List ℕ) (second : Bool) (before : List ℕ) (at : ℕ)
@@ -32,7 +34,9 @@ pub put-bank : (g : Geometry) → InRange g → (d : Device) (bank : List ℕ) (
     ≡ sets before at (bankLinesOf g d bank second)
 put-bank g ok d bank second before at =
     let boot = kindLinesOf g d bank second false in
-    rw (sets-after before at (at + 17 * g .b) boot (kindLinesOf g d bank second true) (omega (arith, lines-length g d bank second false (g .b) (ok .q-high) (kind-few g ok false))))
+    let program = kindLinesOf g d bank second true in
+    let size = lines-length g d bank second false (g .b) (ok .q-high) (kind-few g ok false) in
+    rw (sets-after before at (at + 17 * g .b) boot program (omega (arith, size)))
 
 -- bank 1, and then bank 2: the sheet, and after it what stood there
 pub put-sheet : (g : Geometry) → InRange g → (d : Device) (one two buffer : List ℕ) → sheetBytesOf g ≤ length buffer

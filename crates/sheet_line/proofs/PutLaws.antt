@@ -35,8 +35,12 @@ put-right-column out at columns n end l = rw (sets-append out at (rightOf column
 
 -- the columns of a line, each after the one before
 pub put-line : (out : List ℕ) (at : ℕ) (s : PageState) → s .page < 1000
-    → sets (sets (sets (sets (sets (sets out at (rightColumnOf 1 (bankNumberOf (s .second)) blank)) (at + 2) (letterOf (kindLetterOf (s .program)))) (at + 4) (rightColumnOf 3 (s .page) blank)) (at + 8) (letterOf (sideLetterOf (s .upper)))) (at + 10) (rightColumnOf 1 (flagOf (s .protected)) blank)) (at + 12) (rightColumnOf 4 (s .quads) lineFeed)
-    ≡ sets out at (lineOf s)
+    → let out1 = sets out at (rightColumnOf 1 (bankNumberOf (s .second)) blank) in
+    let out2 = sets out1 (at + 2) (letterOf (kindLetterOf (s .program))) in
+    let out3 = sets out2 (at + 4) (rightColumnOf 3 (s .page) blank) in
+    let out4 = sets out3 (at + 8) (letterOf (sideLetterOf (s .upper))) in
+    let out5 = sets out4 (at + 10) (rightColumnOf 1 (flagOf (s .protected)) blank) in
+    sets out5 (at + 12) (rightColumnOf 4 (s .quads) lineFeed) ≡ sets out at (lineOf s)
 unfolding lineOf
 put-line out at s few =
     let bank = rightColumnOf 1 (bankNumberOf (s .second)) blank in
@@ -49,10 +53,13 @@ put-line out at s few =
     let out2 = sets out1 (at + 2) kind in
     let out3 = sets out2 (at + 4) page in
     let out4 = sets out3 (at + 8) side in
+    let two = right-column-length 1 (bankNumberOf (s .second)) blank (bank-width (s .second)) in
+    let four = right-column-length 3 (s .page) blank (page-width (s .page) few) in
+    let two-more = right-column-length 1 (flagOf (s .protected)) blank (flag-width (s .protected)) in
     rw (
-      sets-after out at (at + 2) bank (kind ++ (page ++ (side ++ (protection ++ quads)))) (omega (arith, right-column-length 1 (bankNumberOf (s .second)) blank (bank-width (s .second)))),
+      sets-after out at (at + 2) bank (kind ++ (page ++ (side ++ (protection ++ quads)))) (omega (arith, two)),
       sets-after out1 (at + 2) (at + 4) kind (page ++ (side ++ (protection ++ quads))) (omega arith),
-      sets-after out2 (at + 4) (at + 8) page (side ++ (protection ++ quads)) (omega (arith, right-column-length 3 (s .page) blank (page-width (s .page) few))),
+      sets-after out2 (at + 4) (at + 8) page (side ++ (protection ++ quads)) (omega (arith, four)),
       sets-after out3 (at + 8) (at + 10) side (protection ++ quads) (omega arith),
-      sets-after out4 (at + 10) (at + 12) protection quads (omega (arith, right-column-length 1 (flagOf (s .protected)) blank (flag-width (s .protected)))),
+      sets-after out4 (at + 10) (at + 12) protection quads (omega (arith, two-more)),
     )

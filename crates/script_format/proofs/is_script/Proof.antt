@@ -19,41 +19,54 @@ Inv-loop script i₀ i = (i ≤ length script / 8) × (allBelow (λ k. isRecordO
 abbrev μ-loop : tie.MeasureT-loop
 μ-loop script i₀ i = length script / 8 - i
 
-returns-2 : tie.Need-returns-2 Inv-loop μ-loop
+odd : tie.Need-returns Inv-loop μ-loop
 unfolding isScriptOf
-returns-2 c =
-    let script = c .before .before .before .before .before .before .before .args .script .now in
-    let unknown = rw (c .before .before .record-at .ensures) at (sym (c .before .is-record .ensures) ∙ not-true _ (c .if2 .taken)) in
+odd c = rw (ne-eqb _ _ (c .if1 .taken))
+
+begins : tie.Need-loop-holds Inv-loop μ-loop
+begins c = (omega arith, refl)
+
+unknown : tie.Need-returns-2 Inv-loop μ-loop
+unfolding isScriptOf
+unknown c =
+    let record-at = c .before .before in
+    let test = record-at .before in
+    let here = test .before in
+    let script = here .before .before .before .args .script .now in
+    let wrong = rw (record-at .record-at .ensures) at (sym (c .before .is-record .ensures) ∙ not-true _ (c .if2 .taken)) in
     rw (
-      eq-eqb _ _ (c .before .before .before .before .before .if1 .left),
-      not-all-below (λ k. isRecordOf (recordOf script k)) _ (c .before .before .before .before .loop .i) (c .before .before .before .loop-test .taken) unknown,
+      eq-eqb _ _ (here .before .if1 .left),
+      not-all-below (λ k. isRecordOf (recordOf script k)) _ (here .loop .i) (test .loop-test .taken) wrong,
     )
 
-loop-again : tie.Need-loop-again Inv-loop μ-loop
+more : tie.Need-loop-again Inv-loop μ-loop
 unfolding isScriptOf
-loop-again c =
-    let known = rw (c .before .before .record-at .ensures) at (sym (c .before .is-record .ensures) ∙ not-false _ (c .if2 .left)) in
-    (omega arith, rw (add-one (c .before .before .before .before .loop .i), c .before .before .before .before .loop .inv .1) known)
+more c =
+    let record-at = c .before .before in
+    let here = record-at .before .before in
+    let known = rw (record-at .record-at .ensures) at (sym (c .before .is-record .ensures) ∙ not-false _ (c .if2 .left)) in
+    (omega arith, rw (add-one (here .loop .i), here .loop .inv .1) known)
 
-returns-3 : tie.Need-returns-3 Inv-loop μ-loop
+all-known : tie.Need-returns-3 Inv-loop μ-loop
 unfolding isScriptOf
-returns-3 c =
-    let e : length (c .before .before .before .before .args .script .now) / 8 ≡ c .before .loop .i = omega (arith, c .loop-test .left, c .before .loop .inv .0) in
-    rw (eq-eqb _ _ (c .before .before .if1 .left), e, c .before .loop .inv .1)
+all-known c =
+    let here = c .before in
+    let script = here .before .before .before .args .script .now in
+    let e : length script / 8 ≡ here .loop .i = omega (arith, c .loop-test .left, here .loop .inv .0) in
+    rw (eq-eqb _ _ (here .before .if1 .left), e, here .loop .inv .1)
 
 pub is-script-spec : {M : Type 1} → statement M
-unfolding isScriptOf
 is-script-spec =
     tie.close
     (tie.spec
     Inv-loop
     μ-loop
-    (λ c. rw (ne-eqb _ _ (c .if1 .taken)))
-    (λ c. (omega arith, refl))
+    odd
+    begins
     (λ c κs. omega arith)
     (λ c κs. search needs)
-    returns-2
+    unknown
     (λ c. omega arith)
     (λ c. omega arith)
-    loop-again
-    returns-3)
+    more
+    all-known)

@@ -16,26 +16,42 @@ Inv-loop out₀ at count i₀ out i =
 abbrev μ-loop : tie.MeasureT-loop
 μ-loop out₀ at count i₀ out i = count - i
 
+begins : tie.Need-loop-holds Inv-loop μ-loop
+begins c =
+    let start : c .args .at + 0 ≡ c .args .at = omega arith in
+    let all : c .args .count - 0 ≡ c .args .count = omega arith in
+    (omega arith, refl, rw (start, all))
+
+fits : tie.Need-slice-write-out Inv-loop μ-loop
+fits c = omega (arith, c .before .loop .inv .1)
+
+more : tie.Need-loop-again Inv-loop μ-loop
+more c =
+    let (within, same, written) = c .before .loop .inv in
+    let a = c .before .before .args in
+    let next = put-blank (c .before .loop .out) (a .at) (a .count) (c .before .loop .i) (omega (arith, c .loop-test .taken)) in
+    (omega arith, simp length-set same, next ∙ written)
+
+as-long : tie.Need-same-length Inv-loop μ-loop
+as-long c = c .before .loop .inv .1
+
+all-put : tie.Need-returns Inv-loop μ-loop
+all-put c =
+    let (within, same, written) = c .before .loop .inv in
+    let none : c .before .before .args .count - c .before .loop .i ≡ 0 = omega (arith, c .loop-test .left) in
+    rw none at written
+
 pub put-blanks-spec : {M : Type 1} → statement M
 put-blanks-spec =
     tie.close
     (tie.spec
     Inv-loop
     μ-loop
-    (λ c.
-    let start : c .args .at + 0 ≡ c .args .at = omega arith in
-    let all : c .args .count - 0 ≡ c .args .count = omega arith in
-    (omega arith, refl, rw (start, all)))
+    begins
     (λ c. omega arith)
-    (λ c. omega (arith, c .before .loop .inv .1))
+    fits
     (λ c. omega arith)
     (λ c. omega arith)
-    (λ c.
-    let (within, same, written) = c .before .loop .inv in
-    let a = c .before .before .args in
-    (omega arith, simp length-set same, put-blank (c .before .loop .out) (a .at) (a .count) (c .before .loop .i) (omega (arith, c .loop-test .taken)) ∙ written))
-    (λ c. c .before .loop .inv .1)
-    (λ c.
-    let (within, same, written) = c .before .loop .inv in
-    let none : c .before .before .args .count - c .before .loop .i ≡ 0 = omega (arith, c .loop-test .left) in
-    rw none at written))
+    more
+    as-long
+    all-put)

@@ -13,10 +13,29 @@ inside : (c : tie.After-page-index) → let count = c .before .page-quads .resul
     4 * (c .page-index .result * count + count) ≤ length (c .before .before .before .before .args .bank .now)
 inside c =
     let start = c .before .before .before .before in
-    rw (c .page-index .ensures, c .before .page-quads .ensures, start .pre .1 .0) (quads-in-bank (start .args .g) (start .pre .0) (start .args .program) (start .args .page) (start .pre .1 .1))
+    let a = start .args in
+    rw (c .page-index .ensures, c .before .page-quads .ensures, start .pre .1 .0)
+    (quads-in-bank (a .g) (start .pre .0) (a .program) (a .page) (start .pre .1 .1))
+
+first-fits : tie.Need-mul-first
+first-fits c = omega (arith, inside c)
+
+quads-lie : tie.Need-used-quads-requires
+quads-lie c κs = omega (arith, inside (c .before))
+
+the-state : tie.Need-returns
+unfolding pageStateOf
+the-state c =
+    let index = c .before .before in
+    rw (
+      c .used-quads .ensures,
+      c .before .is-protected .ensures,
+      index .page-index .ensures,
+      index .before .page-quads .ensures,
+      index .before .before .is-upper .ensures,
+    )
 
 pub page-state-spec : {M : Type 1} → statement M
-unfolding pageStateOf
 page-state-spec =
     tie.close
     (tie.spec
@@ -25,13 +44,7 @@ page-state-spec =
     (λ c. search needs)
     (λ c κs. search needs)
     (λ c. search needs)
-    (λ c. omega (arith, inside c))
+    first-fits
     (λ c κs. search needs)
-    (λ c κs. omega (arith, inside (c .before)))
-    (λ c. rw (
-      c .used-quads .ensures,
-      c .before .is-protected .ensures,
-      c .before .before .page-index .ensures,
-      c .before .before .before .page-quads .ensures,
-      c .before .before .before .before .is-upper .ensures,
-    )))
+    quads-lie
+    the-state)

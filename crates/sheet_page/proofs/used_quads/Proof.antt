@@ -15,21 +15,46 @@ Inv-loop bank first count quads₀ i₀ quads i = (i ≤ count) × (quads ≡ us
 abbrev μ-loop : tie.MeasureT-loop
 μ-loop bank first count quads₀ i₀ quads i = count - i
 
+begins : tie.Need-loop-holds Inv-loop μ-loop
+begins c = (omega arith, refl)
+
+place-fits : tie.Need-add-quad-at Inv-loop μ-loop
+place-fits c = omega (arith, c .before .before .before .pre)
+
+quad-lies : tie.Need-quad-at-requires Inv-loop μ-loop
+quad-lies c κs = omega (arith, c .before .before .before .pre)
+
+sum-fits : tie.Need-add-quads Inv-loop μ-loop
+sum-fits c =
+    let here = c .before .before .before in
+    let (within, counted) = here .loop .inv in
+    let a = here .before .before .args in
+    let few = used-at-most (a .bank .now) (a .first) (here .loop .i) in
+    omega (arith, c .used .ensures, used-one (c .before .quad-at .result), counted, few)
+
+more : tie.Need-loop-again Inv-loop μ-loop
+more c =
+    let here = c .before .before .before in
+    (omega arith, rw (add-one (here .loop .i), c .used .ensures, c .before .quad-at .ensures, here .loop .inv .1))
+
+all-counted : tie.Need-returns Inv-loop μ-loop
+all-counted c =
+    let here = c .before in
+    let all : here .loop .i ≡ here .before .before .args .count = omega (arith, c .loop-test .left) in
+    rw all at (here .loop .inv .1)
+
 pub used-quads-spec : {M : Type 1} → statement M
 used-quads-spec =
     tie.close
     (tie.spec
     Inv-loop
     μ-loop
-    (λ c. (omega arith, refl))
-    (λ c. omega (arith, c .before .before .before .pre))
-    (λ c κs. omega (arith, c .before .before .before .pre))
+    begins
+    place-fits
+    quad-lies
     (λ c κs. search needs)
-    (λ c.
-    let (within, counted) = c .before .before .before .loop .inv in
-    let a = c .before .before .before .before .before .args in
-    omega (arith, c .used .ensures, used-one (c .before .quad-at .result), counted, used-at-most (a .bank .now) (a .first) (c .before .before .before .loop .i)))
+    sum-fits
     (λ c. omega arith)
     (λ c. omega arith)
-    (λ c. (omega arith, rw (add-one (c .before .before .before .loop .i), c .used .ensures, c .before .quad-at .ensures, c .before .before .before .loop .inv .1)))
-    (λ c. let all : c .before .loop .i ≡ c .before .before .before .args .count = omega (arith, c .loop-test .left) in rw all at (c .before .loop .inv .1)))
+    more
+    all-counted)
