@@ -16,7 +16,9 @@ use Rattle.geometry.specs.declared.banks.Geometry.{Geometry}
 use Rattle.geometry.specs.Banks.{pagesOf, pageQuadsOf}
 use Rattle.update.specs.declared.actions.Action.{Action}
 use Rattle.update.specs.declared.actions.Action.the-variants.{Store, Step}
-use Rattle.update.specs.Actions.{stored, blocks, prologue, endStores, pageStores, pageBlock, quadBlock, erasedPageOf, programmedQuadOf, newQuadOf, bankQuadsOf, erasing, programming, actionsOf, totalOf, pageActions, quadActions, programmingFrom, pageActionOf, quadActionOf, actionAtOf}
+use Rattle.update.specs.Actions.{stored, blocks, prologue, endStores, pageStores, pageBlock, quadBlock, erasedPageOf}
+use Rattle.update.specs.Actions.{programmedQuadOf, newQuadOf, bankQuadsOf, erasing, programming, actionsOf, totalOf}
+use Rattle.update.specs.Actions.{pageActions, quadActions, programmingFrom, pageActionOf, quadActionOf, actionAtOf}
 use Rattle.update.proofs.PlaceLaws.{total-place}
 
 -- ---- blocks of one length

@@ -33,7 +33,8 @@ use Rattle.update.proofs.TargetLaws.{UpperFree, erase-effect, program-e
 use Rattle.update.proofs.HeadLaws.{Between, restCon, Codes, none-codes, page-codes, quad-codes, ended-between, quiet-clear}
 use Rattle.update.proofs.BankLaws.{page-below, quad-below, page-quad, erased-next, programmed-next, words-put, other-word, same-word}
 use Rattle.update.proofs.PlacedLaws.{placed}
-use Rattle.update.proofs.Blocks.{Fixed, Block, Has, stepsIn, opIn, loadedIn, quadIn, wordsIn, runIn, doneIn, DeviceIn, Losing, BankIn, Within, oldWord, newWords}
+use Rattle.update.proofs.Blocks.{Fixed, Block, Has, stepsIn, opIn, loadedIn, quadIn, wordsIn}
+use Rattle.update.proofs.Blocks.{runIn, doneIn, DeviceIn, Losing, BankIn, Within, oldWord, newWords}
 use Rattle.update.proofs.Blocks.Block.{prologue, page, quad}
 use Rattle.update.proofs.BlockStores.{new-small, new-four, blank-small}
 

@@ -19,7 +19,8 @@ use Rattle.controller.specs.Controller.{Sound}
 use Rattle.flash.specs.Step.{stepDeclineOf, stepEffectOf, steppedOf, stepOf}
 use Rattle.update.specs.declared.actions.Action.{Action}
 use Rattle.update.specs.declared.actions.Action.the-variants.{Step}
-use Rattle.update.specs.Actions.{stored, prologue, pageStores, quadBlock, pageActionOf, quadActionOf, erasedPageOf, programmedQuadOf, newQuadOf, pageActions, programmingFrom, actionAtOf, totalOf}
+use Rattle.update.specs.Actions.{stored, prologue, pageStores, quadBlock, pageActionOf, quadActionOf, erasedPageOf}
+use Rattle.update.specs.Actions.{programmedQuadOf, newQuadOf, pageActions, programmingFrom, actionAtOf, totalOf}
 use Rattle.update.specs.Turn.{Formed}
 
 abbrev AllFormed : List Action → Type 0

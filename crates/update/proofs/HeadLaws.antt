@@ -27,7 +27,8 @@ use Rattle.common_declines.proofs.PossibleLaws.{possible}
 use Rattle.register_access.specs.Store.{hasFormOf, accepted, storeOf}
 use Rattle.start_up.specs.StartUp.{access, storesOf, keyStores}
 use Rattle.register_access.proofs.AcceptedLaws.{AtRest}
-use Rattle.controller.proofs.StoreEquations.{launch-clears, launch-begins, address-store, data-store, clear-wren, set-wren, plain-op, launch-store, upper-store, keys-open, store-accepted}
+use Rattle.controller.proofs.StoreEquations.{launch-clears, launch-begins, address-store, data-store, clear-wren, set-wren}
+use Rattle.controller.proofs.StoreEquations.{plain-op, launch-store, upper-store, keys-open, store-accepted}
 use Rattle.controller.proofs.StoreLaws.{store-possible}
 use Rattle.controller.proofs.RestLaws.{NoLaunch, NoLaunches, no-launch-rests, stores-rest}
 use Rattle.update.specs.Actions.{launchStores, clearingStores, unprotectingStores, pageStores, quadStores, upperAddressOf, bankQuadsOf}

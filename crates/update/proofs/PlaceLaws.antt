@@ -15,7 +15,8 @@ use Rattle.geometry.specs.Banks.{pagesOf, pageQuadsOf}
 use Rattle.start_up.specs.StartUp.{Access, access}
 use Rattle.update.specs.declared.actions.Action.{Action}
 use Rattle.update.specs.declared.actions.Action.the-variants.{Store, Step}
-use Rattle.update.specs.Actions.{stored, launchStores, upperAddressOf, endStores, pageStores, quadBlock, erasedPageOf, programmedQuadOf, newQuadOf, bankQuadsOf, totalOf, pageActions, programmingFrom, pageActionOf, quadActionOf, actionAtOf}
+use Rattle.update.specs.Actions.{stored, launchStores, upperAddressOf, endStores, pageStores, quadBlock, erasedPageOf, programmedQuadOf}
+use Rattle.update.specs.Actions.{newQuadOf, bankQuadsOf, totalOf, pageActions, programmingFrom, pageActionOf, quadActionOf, actionAtOf}
 
 -- a store as an action
 abbrev pub storeOfAccess : Access → Action
