@@ -1,11 +1,12 @@
 -- The invariant: the lines so far stand in the buffer. The measure is the pages that are left.
-use Prim.Native.Nat.{_-_, _≤_}
+use Prim.Native.Nat.{_-_, _≤_, _<_}
 use borrow.Author.Needs.{needs}
 use lib.ListN.{length}
 use lib.Seq.{sets}
 use mathlib.Core.Path.{_≡_, refl}
 use native.Mathlib.Numerals.{add-one}
 use native.Mathlib.Omega.{arith}
+use Rattle.sheet_page.specs.State.{kindPagesOf}
 use Rattle.sheet.specs.Sheet.{linesOf}
 use Rattle.sheet.proofs.WidthLaws.{state-fits, kind-few}
 use Rattle.sheet.proofs.PutLaws.{put-next}
@@ -55,13 +56,12 @@ more c =
     let here = test .before in
     let start = entry here in
     let a = start .args in
-    let count = here .before .kind-pages .ensures in
+    let below : here .loop .page < kindPagesOf (a .g) (a .program) = omega (arith, test .loop-test .taken, here .before .kind-pages .ensures) in
     let (within, same, written) = here .loop .inv in (
       omega arith,
       omega (arith, same),
       rw (add-one (here .loop .page), c .before .before .put-line .ensures, state .page-state .ensures, written)
-      (put-next (a .g) (start .pre .0) (a .d) (a .bank .now) (a .second) (a .program) (a .out .now) (a .at) (here .loop .page)
-      (omega (arith, test .loop-test .taken, count))),
+          (put-next (a .g) (start .pre .0) (a .d) (a .bank .now) (a .second) (a .program) (a .out .now) (a .at) (here .loop .page) below),
     )
 
 as-long : tie.Need-same-length Inv-loop μ-loop
