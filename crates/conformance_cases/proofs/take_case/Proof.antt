@@ -4,6 +4,14 @@ use native.Mathlib.Omega.{arith}
 use Rattle.conformance_cases.proofs.take_case.Statement.{statement}
 use Rattle.conformance_cases.proofs.take_case.Tie as tie
 
+-- the entry, from after the four lists
+abbrev entry : tie.After-slice-known6 → tie.Start
+entry c =
+    c .before .before .before .before .before .before .before .before .before .before .before .before .before .before .before .before .before
+
+asked : tie.Need-take-requires-2
+asked c κs = omega (arith, entry c .pre .1)
+
 pub take-case-spec : {M : Type 1} → statement M
 take-case-spec =
     tie.close
@@ -12,7 +20,7 @@ take-case-spec =
     (λ c κs. search needs)
     (λ c κs. search needs)
     (λ c κs. search needs)
-    (λ c κs. omega (arith, c .before .before .before .before .before .before .before .before .before .before .before .before .before .before .before .before .before .pre .1))
+    asked
     (λ c κs. search needs)
     (λ c κs. search needs)
     (λ c. search needs)

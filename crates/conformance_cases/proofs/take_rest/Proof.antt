@@ -6,6 +6,15 @@ use lib.Seq.{length-take-le}
 use Rattle.conformance_cases.proofs.take_rest.Statement.{statement}
 use Rattle.conformance_cases.proofs.take_rest.Tie as tie
 
+taken : tie.Need-returns
+taken c =
+    record {
+      ordered = omega arith;
+      within = search needs;
+      front = sym (length-take-le _ _ (search needs));
+      both = sym (length-take-le _ _ (search needs));
+    }
+
 pub take-rest-spec : {M : Type 1} → statement M
 take-rest-spec =
     tie.close
@@ -19,4 +28,4 @@ take-rest-spec =
     (λ c κs. search needs)
     (λ c. search needs)
     (λ c. search needs)
-    (λ c. record { ordered = omega arith; within = search needs; front = sym (length-take-le _ _ (search needs)); both = sym (length-take-le _ _ (search needs)) }))
+    taken)

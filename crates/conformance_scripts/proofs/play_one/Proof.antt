@@ -7,13 +7,24 @@ use Rattle.script_program.proofs.ProgramLaws.{print-within}
 use Rattle.conformance_scripts.proofs.play_one.Statement.{statement}
 use Rattle.conformance_scripts.proofs.play_one.Tie as tie
 
+prefix-lies : tie.Need-slice-reshare-prefix-write-all
+prefix-lies c =
+    let print = c .before .before in
+    omega (arith, print-within _ _ _ (print .print .ensures) (omega (arith, print .before .before .before .before .pre)))
+
+prefix-long : tie.Need-slice-aggregate-write-all
+prefix-long c =
+    let print = c .before .before .before in
+    let within = print-within _ _ _ (print .print .ensures) (omega (arith, print .before .before .before .before .pre)) in
+    sym (length-take-le _ _ (omega (arith, within)))
+
 pub play-one-spec : {M : Type 1} → statement M
 play-one-spec =
     tie.close
     (tie.spec
     (λ c κs. search needs)
-    (λ c. omega (arith, print-within _ _ _ (c .before .before .print .ensures) (omega (arith, c .before .before .before .before .before .before .pre))))
-    (λ c. sym (length-take-le _ _ (omega (arith, print-within _ _ _ (c .before .before .before .print .ensures) (omega (arith, c .before .before .before .before .before .before .before .pre))))))
+    prefix-lies
+    prefix-long
     (λ c κs. search needs)
     (λ c. search needs)
     (λ c κs. search needs)

@@ -8,7 +8,13 @@ use Rattle.conformance.proofs.answers.put_lines.Statement.{statement}
 use Rattle.conformance.proofs.answers.put_lines.Tie as tie
 
 abbrev Inv-loop : tie.InvT-loop
-Inv-loop held out₀ one₀ two₀ spare₀ start₀ used₀ out one two spare start used = (start ≤ length held) × (length out ≡ length out₀) × (length one ≡ length one₀) × (length two ≡ length two₀) × (length spare ≡ length spare₀) × Used out used
+Inv-loop held out₀ one₀ two₀ spare₀ start₀ used₀ out one two spare start used =
+    (start ≤ length held)
+    × (length out ≡ length out₀)
+    × (length one ≡ length one₀)
+    × (length two ≡ length two₀)
+    × (length spare ≡ length spare₀)
+    × Used out used
 
 abbrev μ-loop : tie.MeasureT-loop
 μ-loop held out₀ one₀ two₀ spare₀ start₀ used₀ out one two spare start used = length held - start

@@ -14,27 +14,55 @@ use Rattle.bank_parts.proofs.AcceptedLaws.{page-lies}
 use Rattle.conformance_answers.proofs.bank_calls.page_answer.Statement.{statement}
 use Rattle.conformance_answers.proofs.bank_calls.page_answer.Tie as tie
 
-accepted : (c : tie.After-page) → let a = c .before .before .before .before .before .before .before .before .args in
-    let g = c .before .before .before .before .before .before .geometry-of .result in
-    acceptedOf (pageDeclineOf g (length (a .bank .now)) (a .number)) ≡ true
+-- ---- the geometry and the entry, from after the test
+
+abbrev geometry : tie.Else1 → tie.After-geometry-of
+geometry c = c .before .before .before .before .before
+
+abbrev entry : tie.Else1 → tie.Start
+entry c = geometry c .before .before
+
+-- ---- what holds of the page
+
+accepted : (c : tie.Else1) → let a = entry c .args in
+    acceptedOf (pageDeclineOf (geometry c .geometry-of .result) (length (a .bank .now)) (a .number)) ≡ true
 accepted c =
-    ap acceptedOf (sym (c .before .before .before .before .before .page-decline .ensures))
-    ∙ sym (c .before .before .is-accepted .ensures)
-    ∙ not-false _ (c .before .if1 .left)
+    ap acceptedOf (sym (c .before .before .before .before .page-decline .ensures)) ∙ sym (c .before .is-accepted .ensures) ∙ not-false _ (c .if1 .left)
 
-lies : (c : tie.After-page) → let a = c .before .before .before .before .before .before .before .before .args in
-    let g = c .before .before .before .before .before .before .geometry-of .result in
+lies : (c : tie.Else1) → let a = entry c .args in let g = geometry c .geometry-of .result in
     InRange g × (a .number * pageWordsOf g + pageWordsOf g ≤ length (a .bank .now))
-lies c = let a = c .before .before .before .before .before .before .before .before .args in page-lies _ (length (a .bank .now)) (a .number) (accepted c)
+lies c = let a = entry c .args in page-lies _ (length (a .bank .now)) (a .number) (accepted c)
 
-part : (c : tie.After-page) → let g = c .before .before .before .before .before .before .geometry-of .result in
-    length (c .page .result .now) ≤ pageWordsOf g
+part : (c : tie.After-page) → length (c .page .result .now) ≤ pageWordsOf (geometry (c .before) .geometry-of .result)
 unfolding pagePartOf
-part c = rw (c .page .ensures .1, accepted c, length-take) (min-le-left _ _)
+part c = rw (c .page .ensures .1, accepted (c .before), length-take) (min-le-left _ _)
 
-room : (c : tie.After-page-words) → let a = c .before .before .before .before .before .before .before .before .before .args in
+room : (c : tie.After-page-words) → let a = entry (c .before .before) .args in
     a .number * c .page-words .result + length (c .before .page .result .now) ≤ length (a .bank .now)
-room c = rw (c .page-words .ensures) (omega (arith, lies (c .before) .1, part (c .before)))
+room c = rw (c .page-words .ensures) (omega (arith, lies (c .before .before) .1, part (c .before)))
+
+-- ---- what each call and each sum asks for
+
+ranged : tie.Need-page-words-requires
+ranged c κs = lies (c .before) .0
+
+start-fits : tie.Need-mul-start
+start-fits c = omega (arith, room c)
+
+end-fits : tie.Need-add-end
+end-fits c = omega (arith, room c)
+
+first-fits : tie.Need-mul-same-words
+first-fits c = omega (arith, room c)
+
+end-lies : tie.Need-part-same-words-end
+end-lies c = omega (arith, room c)
+
+start-short : tie.Need-cast-with
+start-short c = omega (arith, room (c .before .before .before))
+
+end-short : tie.Need-cast-with-2
+end-short c = omega (arith, room (c .before .before .before .before))
 
 pub page-answer-spec : {M : Type 1} → statement M
 page-answer-spec =
@@ -47,19 +75,19 @@ page-answer-spec =
     (λ c κs. search needs)
     (λ c. search needs)
     (λ c κs. search needs)
-    (λ c κs. lies c .0)
+    ranged
     (λ c. search needs)
-    (λ c. omega (arith, room c))
-    (λ c. omega (arith, room c))
-    (λ c. omega (arith, room c))
+    start-fits
+    end-fits
+    first-fits
     (λ c. search needs)
     (λ c. search needs)
-    (λ c. omega (arith, room c))
+    end-lies
     (λ c κs. search needs)
     (λ c κs. search needs)
     (λ c. search needs)
-    (λ c. omega (arith, room (c .before .before .before)))
+    start-short
     (λ c κs. search needs)
-    (λ c. omega (arith, room (c .before .before .before .before)))
+    end-short
     (λ c κs. search needs)
     (λ c. search needs))

@@ -4,8 +4,11 @@ use borrow.Author.Needs.{needs}
 use Rattle.conformance_answers.proofs.changing_calls.reset_answer.Statement.{statement}
 use Rattle.conformance_answers.proofs.changing_calls.reset_answer.Tie as tie
 
-with-changes-requires : tie.Need-with-changes-requires
-with-changes-requires c κs = omega (arith, c .before .before .before .before .before .before .before .before .reset .kept, c .before .before .before .before .before .before .before .before .before .before .before .before .before .before .before .before .before .before .pre)
+room : tie.Need-with-changes-requires
+room c κs =
+    let reset = c .before .before .before .before .before .before .before .before in
+    let start = reset .before .before .before .before .before .before .before .before .before .before in
+    omega (arith, reset .reset .kept, start .pre)
 
 pub reset-answer-spec : {M : Type 1} → statement M
 reset-answer-spec =
@@ -22,7 +25,7 @@ reset-answer-spec =
     (λ c. search needs)
     (λ c κs. search needs)
     (λ c κs. search needs)
-    with-changes-requires
+    room
     (λ c. search needs)
     (λ c. search needs)
     (λ c. search needs)

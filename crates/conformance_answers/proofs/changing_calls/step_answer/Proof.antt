@@ -4,8 +4,11 @@ use borrow.Author.Needs.{needs}
 use Rattle.conformance_answers.proofs.changing_calls.step_answer.Statement.{statement}
 use Rattle.conformance_answers.proofs.changing_calls.step_answer.Tie as tie
 
-with-changes-requires : tie.Need-with-changes-requires
-with-changes-requires c κs = omega (arith, c .before .before .before .before .before .before .before .before .step .kept, c .before .before .before .before .before .before .before .before .before .before .before .before .before .before .before .before .before .before .pre)
+room : tie.Need-with-changes-requires
+room c κs =
+    let step = c .before .before .before .before .before .before .before .before in
+    let start = step .before .before .before .before .before .before .before .before .before .before in
+    omega (arith, step .step .kept, start .pre)
 
 pub step-answer-spec : {M : Type 1} → statement M
 step-answer-spec =
@@ -17,7 +20,7 @@ step-answer-spec =
     (λ c. search needs)
     (λ c κs. search needs)
     (λ c κs. search needs)
-    with-changes-requires
+    room
     (λ c. search needs)
     (λ c. search needs)
     (λ c. search needs)

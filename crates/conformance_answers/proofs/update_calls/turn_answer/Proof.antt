@@ -4,6 +4,12 @@ use native.Mathlib.Omega.{arith}
 use Rattle.conformance_answers.proofs.update_calls.turn_answer.Statement.{statement}
 use Rattle.conformance_answers.proofs.update_calls.turn_answer.Tie as tie
 
+room : tie.Need-with-changes-requires
+room c κs =
+    let turn = c .before .before .before .before .before .before .before .before in
+    let start = turn .before .before .before .before .before .before .before .before .before .before in
+    omega (arith, turn .turn-with .kept, start .pre)
+
 pub turn-answer-spec : {M : Type 1} → statement M
 turn-answer-spec =
     tie.close
@@ -14,7 +20,7 @@ turn-answer-spec =
     (λ c. search needs)
     (λ c κs. search needs)
     (λ c κs. search needs)
-    (λ c κs. omega (arith, c .before .before .before .before .before .before .before .before .turn-with .kept, c .before .before .before .before .before .before .before .before .before .before .before .before .before .before .before .before .before .before .pre))
+    room
     (λ c. search needs)
     (λ c. search needs)
     (λ c. search needs)

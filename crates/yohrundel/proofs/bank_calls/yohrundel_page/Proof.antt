@@ -15,31 +15,53 @@ use borrow.Author.Tests.{eqb-true}
 use Rattle.yohrundel.proofs.bank_calls.yohrundel_page.Statement.{statement}
 use Rattle.yohrundel.proofs.bank_calls.yohrundel_page.Tie as tie
 
-accepted : (c : tie.Else1) → let a = c .before .before .before .before .args in
-    acceptedOf (pageDeclineOf (a .g) (length (a .bank .now)) (a .page)) ≡ true
+-- the entry, from after the test
+abbrev entry : tie.Else1 → tie.Start
+entry c = c .before .before .before .before
+
+accepted : (c : tie.Else1) → let a = entry c .args in acceptedOf (pageDeclineOf (a .g) (length (a .bank .now)) (a .page)) ≡ true
 accepted c = went-on (c .before .before .page-decline .ensures) (c .before .is-accepted .ensures) (c .if1 .left)
 
-lies : (c : tie.Else1) → let a = c .before .before .before .before .args in
-    InRange (a .g) × (a .page * pageWordsOf (a .g) + pageWordsOf (a .g) ≤ length (a .bank .now))
-lies c = let a = c .before .before .before .before .args in page-lies (a .g) (length (a .bank .now)) (a .page) (accepted c)
+zero : (c : tie.Else1) → let a = entry c .args in numberOf (pageDeclineOf (a .g) (length (a .bank .now)) (a .page)) ≡ 0
+zero c = eqb-true _ _ (accepted c)
 
-zero : (c : tie.After-page-words) → let a = c .before .before .before .before .before .args in numberOf (pageDeclineOf (a .g) (length (a .bank .now)) (a .page)) ≡ 0
-zero c = eqb-true _ _ (accepted (c .before))
+lies : (c : tie.Else1) → let a = entry c .args in InRange (a .g) × (a .page * pageWordsOf (a .g) + pageWordsOf (a .g) ≤ length (a .bank .now))
+lies c = let a = entry c .args in page-lies (a .g) (length (a .bank .now)) (a .page) (accepted c)
 
-room : (c : tie.After-page-words) → let a = c .before .before .before .before .before .args in
+declined : tie.Need-returns
+unfolding pagePartOf pageAnswerOf
+declined c =
+    let test = c .before in
+    let e = test .before .before .page-decline .ensures in
+    let off = stopped e (test .before .is-accepted .ensures) (test .if1 .taken) in
+    (rw (off, c .number .ensures, e), rw off)
+
+ranged : tie.Need-page-words-requires
+ranged c κs = lies c .0
+
+room : (c : tie.After-page-words) → let a = entry (c .before) .args in
     a .page * c .page-words .result + c .page-words .result ≤ length (a .bank .now)
 room c = rw (c .page-words .ensures) (lies (c .before) .1)
 
-pub yohrundel-page-spec : {M : Type 1} → statement M
+start-fits : tie.Need-mul-t11
+start-fits c = omega (arith, room c)
+
+the-page : tie.Need-returns-2
 unfolding pagePartOf pageAnswerOf
+the-page c =
+    let words = c .page-words .ensures in
+    let on = accepted (c .before) in
+    (rw (on, zero (c .before), words), rw (on, words))
+
+pub yohrundel-page-spec : {M : Type 1} → statement M
 yohrundel-page-spec =
     tie.close
     (tie.spec
     (λ c κs. search needs)
     (λ c κs. search needs)
     (λ c κs. search needs)
-    (λ c. let declined = stopped (c .before .before .before .page-decline .ensures) (c .before .before .is-accepted .ensures) (c .before .if1 .taken) in (rw (declined, c .number .ensures, c .before .before .before .page-decline .ensures), rw declined))
-    (λ c κs. lies c .0)
+    declined
+    ranged
     (λ c. search needs)
-    (λ c. omega (arith, room c))
-    (λ c. (rw (accepted (c .before), zero c, c .page-words .ensures), rw (accepted (c .before), c .page-words .ensures))))
+    start-fits
+    the-page)

@@ -3,5 +3,8 @@ use borrow.Author.Needs.{needs}
 use Rattle.yohrundel.proofs.device_calls.yohrundel_register_read.Statement.{statement}
 use Rattle.yohrundel.proofs.device_calls.yohrundel_register_read.Tie as tie
 
+answered : tie.Need-returns
+answered c = rw (c .number .ensures, ← c .before .before .register-read .ensures)
+
 pub yohrundel-register-read-spec : {M : Type 1} → statement M
-yohrundel-register-read-spec = tie.close (tie.spec (λ c κs. search needs) (λ c κs. search needs) (λ c. rw (c .number .ensures, ← c .before .before .register-read .ensures)))
+yohrundel-register-read-spec = tie.close (tie.spec (λ c κs. search needs) (λ c κs. search needs) answered)

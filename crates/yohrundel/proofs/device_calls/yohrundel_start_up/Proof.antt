@@ -3,5 +3,8 @@ use borrow.Author.Needs.{needs}
 use Rattle.yohrundel.proofs.device_calls.yohrundel_start_up.Statement.{statement}
 use Rattle.yohrundel.proofs.device_calls.yohrundel_start_up.Tie as tie
 
+answered : tie.Need-returns
+answered c = rw (c .number .ensures, ← c .before .before .start-up .ensures)
+
 pub yohrundel-start-up-spec : {M : Type 1} → statement M
-yohrundel-start-up-spec = tie.close (tie.spec (λ c κs. search needs) (λ c κs. search needs) (λ c. rw (c .number .ensures, ← c .before .before .start-up .ensures)))
+yohrundel-start-up-spec = tie.close (tie.spec (λ c κs. search needs) (λ c κs. search needs) answered)

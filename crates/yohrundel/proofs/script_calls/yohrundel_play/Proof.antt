@@ -3,6 +3,11 @@ use borrow.Author.Needs.{needs}
 use Rattle.yohrundel.proofs.script_calls.yohrundel_play.Statement.{statement}
 use Rattle.yohrundel.proofs.script_calls.yohrundel_play.Tie as tie
 
+answered : tie.Need-returns
+answered c =
+    let e = c .before .before .before .before .before .before .before .before .play .ensures in
+    (rw (c .number .ensures, ← e), (rw (← e), (rw (← e), rw (← e))))
+
 pub yohrundel-play-spec : {M : Type 1} → statement M
 yohrundel-play-spec =
     tie.close
@@ -12,4 +17,4 @@ yohrundel-play-spec =
     (λ c. search needs)
     (λ c. search needs)
     (λ c. search needs)
-    (λ c. let e = c .before .before .before .before .before .before .before .before .play .ensures in (rw (c .number .ensures, ← e), (rw (← e), (rw (← e), rw (← e))))))
+    answered)
