@@ -1,7 +1,8 @@
 // Q, B and P, and the sizes that they give.
 ghost use mathlib.Core.Path.{_≡_};
 ghost use Prim.Native.Nat.{_<_};
-ghost use Rattle.geometry.specs.Banks.{listedOf, inRangeOf, InRange, pagesOf, rowBytesOf, pageBytesOf, pageWordsOf, pageQuadsOf, bootBytesOf, bootWordsOf, bootQuadsOf, programBytesOf, bankWordsOf, roundDownOf};
+ghost use Rattle.geometry.specs.Banks.{listedOf, inRangeOf, InRange, pagesOf, rowBytesOf, pageBytesOf, pageWordsOf, pageQuadsOf};
+ghost use Rattle.geometry.specs.Banks.{bootBytesOf, bootWordsOf, bootQuadsOf, programBytesOf, bankWordsOf, roundDownOf};
 
 // Q quads per row, B boot pages and P program pages per bank, as a caller lends them.
 #[repr(C)]

@@ -7,7 +7,8 @@ use lib.Bits.{bitOr, bitXor}
 use Rattle.words.specs.Word.{pick, hasOf, clearOf}
 use Rattle.device.specs.declared.record.Device.{Device}
 use Rattle.device.specs.Record.{isOpen}
-use Rattle.device.specs.Registers.{WREN, PFSWAP, BFSWAP, NVMOP, PWPULOCK, PWP, LBWPULOCK, LBWP, UBWPULOCK, UBWP, NVMERS, NVMWS, NVMLPRD, NVMCRD, NVMVRD, NVMRETRY, SWAPLOCK}
+use Rattle.device.specs.Registers.{WREN, PFSWAP, BFSWAP, NVMOP, PWPULOCK, PWP, LBWPULOCK, LBWP, UBWPULOCK, UBWP}
+use Rattle.device.specs.Registers.{NVMERS, NVMWS, NVMLPRD, NVMCRD, NVMVRD, NVMRETRY, SWAPLOCK}
 use Rattle.device.specs.Numbers.{plain, clear, set, key1, key2, key3}
 
 -- "A store has form 0 plain, 1 clear, 2 set or 3 invert"; "The form gives a wanted value"

@@ -1,6 +1,7 @@
 // What a store asks for, and which fields of a register take it: each condition is judged on the device before the store.
 ghost use mathlib.Core.Path.{_≡_};
-ghost use Rattle.register_fields.specs.Fields.{wantedOf, keyNextOf, conTakesOf, pwpTakesOf, lowerTakesOf, upperTakesOf, bwpTakesOf, keyedTakesOf, swaplockTakesOf, con2TakesOf};
+ghost use Rattle.register_fields.specs.Fields.{wantedOf, keyNextOf, conTakesOf, pwpTakesOf, lowerTakesOf, upperTakesOf, bwpTakesOf};
+ghost use Rattle.register_fields.specs.Fields.{keyedTakesOf, swaplockTakesOf, con2TakesOf};
 use device::numbers::CLEAR;
 use device::numbers::KEY1;
 use device::numbers::KEY2;

@@ -3,7 +3,8 @@
 ghost use mathlib.Core.Path.{_≡_};
 ghost use Prim.Native.Nat.{_<_};
 ghost use Rattle.geometry.specs.Banks.{InRange};
-ghost use Rattle.sequence.specs.Sequence.{sequenceQuadOf, sequenceIndexOf, tseqOf, cseqOf, complementOf, validOf, bfswapOf, sequenceWordOf, nextSequenceOf};
+ghost use Rattle.sequence.specs.Sequence.{sequenceQuadOf, sequenceIndexOf, tseqOf, cseqOf, complementOf, validOf};
+ghost use Rattle.sequence.specs.Sequence.{bfswapOf, sequenceWordOf, nextSequenceOf};
 use geometry::banks::Geometry;
 use geometry::banks::boot_quads;
 
