@@ -1,2 +1,3 @@
 pub mod SequenceLaws
 pub mod Bench
+pub mod Sum

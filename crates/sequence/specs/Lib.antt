@@ -1,2 +1,3 @@
 pub mod Sequence
 pub mod Bench
+pub mod Sum

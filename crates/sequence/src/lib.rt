@@ -38,18 +38,13 @@ pub fn cseq(w: u32) -> u32
     w / 65536
 }
 
-// The bitwise complement of a half word.
-fn complement(half: u32) -> u32
-    ensures { λ r. ⌜ r ≡ complementOf half ⌝ }
-{
-    half ^ 0xFFFF
-}
-
-// Whether C is the bitwise complement of T.
+// Whether C is the bitwise complement of T, by the sum of the two.
 pub fn is_valid(w: u32) -> bool
     ensures { λ r. ⌜ r ≡ validOf w ⌝ }
 {
-    cseq(w) == complement(tseq(w))
+    let high = cseq(w);
+    let low = tseq(w);
+    high + low == 65535
 }
 
 // BFSWAP as a reset sets it by the sequence words of bank 1 and bank 2: whether bank 2 goes lower.
@@ -63,6 +58,13 @@ pub fn bfswap(first: u32, second: u32) -> bool
         return false;
     }
     is_valid(second)
+}
+
+// The bitwise complement of a half word.
+fn complement(half: u32) -> u32
+    ensures { λ r. ⌜ r ≡ complementOf half ⌝ }
+{
+    half ^ 0xFFFF
 }
 
 // The valid sequence word of T.
