@@ -9,7 +9,7 @@ use crate::device::{possible, protected, Device, REGISTERS};
 use crate::flash::{flash_read, lower_bank, page, reset, step};
 use crate::geometry::{Banks, Geometry, Kind, Side};
 use crate::list::List;
-use crate::sequence::compare;
+use crate::sequence::{compare, valid};
 use crate::store::{register_read, start_up, store};
 use crate::update::{turn, update_start};
 use crate::Answer;
@@ -104,6 +104,7 @@ impl Case {
                 vec![u32::from(possible(&geometry, &self.device))]
             }
             Call::Protected => vec![u32::from(self.answer_protected()?)],
+            Call::ValidBySum => vec![u32::from(valid(self.numbers[0]))],
             _ => match self.answer_call() {
                 Ok(mut outputs) => {
                     outputs.insert(0, 0);

@@ -1,8 +1,7 @@
 //! The stored cases of the program `cases`: what they expect is what this model gives.
 
 use model::cases::answer_line;
-use model::generate::directed::request_cases;
-use model::generate::{line, Cases};
+use model::generate::{directed, line, Cases};
 use std::collections::BTreeSet;
 use std::path::{Path, PathBuf};
 
@@ -60,9 +59,9 @@ fn every_call_and_every_decline_is_stored() {
 
 #[test]
 fn directed_cases_are_stored() {
-    for subject in ["plans", "sheets", "lanes"] {
+    for subject in directed::REQUEST_SUBJECTS.map(|subject| subject.name) {
         let mut made = String::new();
-        for (of, case) in request_cases() {
+        for (of, case) in directed::request_cases() {
             let line = line(&case).unwrap();
             if of == subject && line.len() <= LONGEST {
                 made += &format!("{line}\n");

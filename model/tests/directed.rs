@@ -28,7 +28,10 @@ fn numbers(case: &Case) -> Vec<u32> {
 /// What became of a case, in a few words.
 fn outcome(case: &Case) -> String {
     let numbers = numbers(case);
-    let named = matches!(case.call, Call::Compare | Call::Possible | Call::Protected);
+    let named = matches!(
+        case.call,
+        Call::Compare | Call::Possible | Call::Protected | Call::ValidBySum
+    );
     if named || numbers[0] != 0 {
         return numbers[0].to_string();
     }
@@ -97,6 +100,7 @@ fn both_sides_of_each_subject_occur() {
         ("sheets", "page_sheet", "accepted 1 2 3 18"),
         ("lanes", "lanes_out", "accepted 22"),
         ("lanes", "lanes_back", "accepted 22"),
+        ("sums", "valid_by_sum", "0 1"),
     ] {
         let expected: BTreeSet<String> = expected.split(' ').map(String::from).collect();
         assert_eq!(outcomes[&(subject, call)], expected, "{subject} {call}");

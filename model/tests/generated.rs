@@ -9,7 +9,7 @@ use model::script::{play, records};
 /// The declines of each call.
 fn declines(call: Call) -> &'static [u32] {
     match call {
-        Call::Compare | Call::Possible | Call::Protected => &[],
+        Call::Compare | Call::Possible | Call::Protected | Call::ValidBySum => &[],
         Call::Store => &[1, 3, 4, 5],
         Call::RegisterRead => &[1, 3, 4],
         Call::FlashRead => &[1, 2, 3, 8, 9],
@@ -63,11 +63,11 @@ fn generated_requests_come_back() {
 fn a_seed_keeps_its_lines() {
     let mut sum: u64 = 0;
     for case in Cases::new(1, 512).take(1000) {
-        for byte in line(&case).unwrap().bytes() {
+        for byte in case.inputs().bytes() {
             sum = (1_000_003 * sum + u64::from(byte)) % 4_294_967_311;
         }
     }
-    assert_eq!(sum, 602_659_649);
+    assert_eq!(sum, 3_464_448_074);
 }
 
 /// Sheets of every Q, under all four mappings, of idle and running devices; plans of few and many windows.
@@ -115,7 +115,7 @@ fn every_decline_occurs() {
         let mut expected: BTreeSet<u32> = declines(shape.call).iter().copied().collect();
         match shape.call {
             Call::Compare => expected.extend([1, 2]),
-            Call::Possible | Call::Protected => expected.extend([0, 1]),
+            Call::Possible | Call::Protected | Call::ValidBySum => expected.extend([0, 1]),
             _ => expected.extend([0]),
         }
         assert_eq!(*numbers, expected, "{}", shape.name);

@@ -70,6 +70,8 @@ fn lines_that_are_no_case_of_a_request() {
         "lanes_back 4 7 0 4 0 1 3 256",
         "lanes_back 4 7 0 4 0 0 0",
         "lanes 4 7 0 4 0 0",
+        "valid_by_sum",
+        "valid_by_sum 65535 0",
         &sheet,
         &format!("{sheet} 67 256 0"),
         &format!("{sheet} 67 0 1 0 256"),

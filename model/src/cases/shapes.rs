@@ -19,6 +19,7 @@ pub enum Call {
     PageSheet,
     LanesOut,
     LanesBack,
+    ValidBySum,
 }
 
 /// The inputs of a call, in the order in which a line gives them.
@@ -56,7 +57,7 @@ const fn shape(
 }
 
 /// The calls of the base stand first, those of later requests follow.
-pub const SHAPES: [Shape; 17] = [
+pub const SHAPES: [Shape; 18] = [
     shape(Call::Compare, "compare", false, false, 0, 2),
     shape(Call::Possible, "possible", true, true, 0, 0),
     shape(Call::Protected, "protected", true, true, 0, 3),
@@ -86,6 +87,7 @@ pub const SHAPES: [Shape; 17] = [
         bytes: 2,
         ..shape(Call::LanesBack, "lanes_back", false, false, 2, 0)
     },
+    shape(Call::ValidBySum, "valid_by_sum", false, false, 0, 1),
 ];
 
 /// How many calls the base has.

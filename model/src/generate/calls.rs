@@ -59,6 +59,7 @@ fn fill_case(random: &mut Random, geometry: &Geometry, case: &mut Case) {
         Call::Plan => plan_case(random, case),
         Call::PageSheet => page_sheet_case(random, geometry, case),
         Call::LanesOut | Call::LanesBack => lanes_case(random, case),
+        Call::ValidBySum => case.numbers = vec![memory::sequence_word(random)],
     }
 }
 

@@ -17,6 +17,7 @@ mod sheets;
 mod singles;
 mod start_ups;
 mod steps;
+mod sums;
 mod swaps;
 mod tears;
 mod updates;
@@ -58,10 +59,11 @@ pub const SUBJECTS: [Subject; 16] = [
 ];
 
 /// Subjects of the calls that later requests added.
-pub const REQUEST_SUBJECTS: [Subject; 3] = [
+pub const REQUEST_SUBJECTS: [Subject; 4] = [
     subject("plans", plans::cases),
     subject("sheets", sheets::cases),
     subject("lanes", lanes::cases),
+    subject("sums", sums::cases),
 ];
 
 /// The cases of the base's subjects.

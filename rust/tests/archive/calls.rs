@@ -4,7 +4,7 @@ use std::path::Path;
 
 use model::generate::{directed, Cases, DEFAULT_WORDS, MOST_WORDS};
 
-use crate::case::check;
+use crate::case::{check, is_call};
 use crate::settings::{cases, seed, Report};
 
 fn random_cases(seed: u64, most_words: u32, count: usize) {
@@ -65,7 +65,8 @@ fn check_file(path: &Path) -> usize {
     let parted = text.lines().map(|line| line.split_once(" | "));
     let cases = parted.map(|line| line.expect("a bar"));
     let mut count = 0;
-    for (inputs, expected) in cases.filter(|(_, expected)| *expected != "?") {
+    let calls = cases.filter(|(inputs, expected)| is_call(inputs) && *expected != "?");
+    for (inputs, expected) in calls {
         check(inputs, expected);
         count += 1;
     }

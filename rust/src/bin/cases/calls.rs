@@ -57,6 +57,7 @@ const CALLS: &[(&str, Call)] = &[
     ("page_sheet", sheet::page_sheet),
     ("lanes_out", lanes::lanes_out),
     ("lanes_back", lanes::lanes_back),
+    ("valid_by_sum", rules::valid_by_sum),
 ];
 
 /// What stands right of the bar.
