@@ -9,6 +9,7 @@ use Rattle.controller.specs.Controller.Operation.{step, reset}
 use Rattle.controller.proofs.WriteLaws.{writes-one-quad, one-quad}
 use Rattle.controller.proofs.ProtectedPageLaws.{keeps}
 use Rattle.controller.proofs.RunLaws.{run-sound, declined-same, compared}
+use Rattle.controller.proofs.ProbeLaws.{read-key}
 use Rattle.controller.proofs.StartUpLaws.{start-up-runs, start-up-accepted, start-up-sound, start-up-cut}
 
 pub controller : Controller
@@ -19,6 +20,7 @@ controller =
       power-on = λ g one two a b. record { possible = power-on-possible g; first = a; other = b };
       declined-same = declined-same;
       masked = λ g s h r l. all-below (λ r. withinOf r (registerOf (s .device) r)) 11 (and-both (implementedOf (s .device)) _ (h .possible) .0) r l;
+      read-key = λ g s r on. read-key g (s .device) r on;
       one-quad = λ g s sram. one-quad g s _ (writes-one-quad g s (step sram));
       one-quad-torn = λ g s sram kind mask. one-quad g s _ (writes-one-quad g s (reset sram kind mask));
       keeps = keeps;

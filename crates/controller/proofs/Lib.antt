@@ -9,3 +9,4 @@ pub mod RunLaws
 pub mod RestLaws
 pub mod StartUpLaws
 pub mod Controller
+pub mod ProbeLaws

@@ -27,7 +27,7 @@ use Rattle.controller.proofs.DeviceLaws.{advance-possible, reset-possib
 use Rattle.controller.proofs.WriteLaws.{by-step, by-reset, writes-one-quad, bank-length}
 
 -- ---- what an accepted operation leaves, and what a declined one
-by-store : (g : Geometry) (d : Device) (r form value : ℕ) (P : Answer → Type 0)
+pub by-store : (g : Geometry) (d : Device) (r form value : ℕ) (P : Answer → Type 0)
     → (acceptedOf (storeDeclineOf g d r form) ≡ true → P (storeOf g d r form value))
     → (acceptedOf (storeDeclineOf g d r form) ≡ false → P (record { decline = storeDeclineOf g d r form; device = d; event = false }))
     → P (storeOf g d r form value)
@@ -38,7 +38,7 @@ by-store g d r form value P yes′ no′ = go (acceptedOf (storeDeclineOf g d r 
     go true e = yes′ e
     go false e = rw e (no′ e)
 
-by-read : (g : Geometry) (d : Device) (r : ℕ) (P : RegisterRead → Type 0)
+pub by-read : (g : Geometry) (d : Device) (r : ℕ) (P : RegisterRead → Type 0)
     → (acceptedOf (readDeclineOf g d r) ≡ true → P (registerReadOf g d r))
     → (acceptedOf (readDeclineOf g d r) ≡ false → P (record { decline = readDeclineOf g d r; value = 0; device = d }))
     → P (registerReadOf g d r)

@@ -9,7 +9,7 @@ use native.Mathlib.Omega.{arith}
 use lib.Dec.{eqb, ltb, lit<}
 use lib.ListN.{set}
 use lib.Bits.{bitOr, xor-lt, or-lt, and-lt, or-mod, or-zero-r}
-use borrow.Author.Tests.{lt-ltb, eq-eqb}
+use borrow.Author.Tests.{lt-ltb, eq-eqb, eqb-true}
 use Rattle.words.specs.Word.{pick, bit, hasOf, mergeOf, clearOf}
 use Rattle.words.specs.Quad.{wordAt}
 use Rattle.words.proofs.PickLaws.{pick-both, and-both}
@@ -25,12 +25,13 @@ use Rattle.device.specs.Builders.{withCon}
 use Rattle.device.specs.Record.{registerOf, running, opOf}
 use Rattle.nvmop.specs.Operation.{beginsOf, lengthOf}
 use Rattle.common_declines.specs.Possible.{runningOf, possibleOf}
-use Rattle.register_fields.specs.Fields.{wantedOf, conTakesOf, bwpTakesOf}
+use Rattle.register_fields.specs.Fields.{wantedOf, keyAfterReadOf, conTakesOf, bwpTakesOf}
 use Rattle.launch.specs.Launch.{launched, launchOf}
 use Rattle.register_access.specs.Store.{storeDeclineOf, dataAfter, appliedOf, storeAcceptedOf, storeOf, readDeclineOf, registerReadOf}
 use Rattle.launch.specs.ConStore.{launchesOf, conStoreOf}
 use Rattle.nvmop.proofs.OperationLaws.{length-pos}
-use Rattle.register_fields.proofs.FieldLaws.{con-takes-within, pwp-takes-within, bwp-takes-within, con2-takes-within, key-next-high}
+use Rattle.register_fields.proofs.FieldLaws.{con-takes-within, pwp-takes-within, bwp-takes-within, con2-takes-within}
+use Rattle.register_fields.proofs.KeyLaws.{key-next-high, key-kept, key-after-read-high}
 use Rattle.common_declines.proofs.PossibleLaws.{Implemented, Possible, possible, possible-test, idle-step, same-rows}
 use Rattle.register_access.proofs.AcceptedLaws.{AtRest, store-at-rest, read-possible}
 
@@ -221,15 +222,18 @@ unfolding registerReadOf runningOf
 read-leaves-possible g d r ok =
     let old = possible g d (read-possible g d r ok .1) in
     rw ok
-    (possible-test g (withCon d (d .nvmcon .0) 0 (d .step))
+    (possible-test g (withCon d (d .nvmcon .0) (keyAfterReadOf (d .keystep)) (d .step))
     (record {
-      rows = same-rows d _ 0 (d .step) (old .rows .con) (old .rows);
+      rows = same-rows d _ (keyAfterReadOf (d .keystep)) (d .step) (old .rows .con) (old .rows);
       always = old .always;
-      keys = omega arith;
+      keys = key-after-read-high (d .keystep) (old .keys);
       runs = go (running d) refl (old .runs);
     }))
   where
     go : (t : Bool) → running d ≡ t → pick (running d) (runningOf g d) (eqb (d .step) 0) ≡ true
-        → pick (running d) (runningOf g (withCon d (d .nvmcon .0) 0 (d .step))) (eqb (d .step) 0) ≡ true
-    go true e h = rw e (and-both (eqb (d .keystep) 0) _ (rw e at h) .1)
+        → pick (running d) (runningOf g (withCon d (d .nvmcon .0) (keyAfterReadOf (d .keystep)) (d .step))) (eqb (d .step) 0) ≡ true
+    -- while an operation runs the key step is 0, and a read leaves it
+    go true e h =
+        let shut = eqb-true (d .keystep) 0 (and-both (eqb (d .keystep) 0) _ (rw e at h) .0) in
+        rw (e, key-kept (d .keystep) (omega (arith, shut))) (rw e at h)
     go false e h = rw e (rw e at h)

@@ -5,7 +5,9 @@ use mathlib.Core.Path.{_≡_}
 use mathlib.Core.Bool.{Bool, true, false, not}
 use mathlib.Core.List.{List, [], _∷_}
 use mathlib.Core.Logic.{_⊎_}
+use lib.Dec.{eqb}
 use lib.ListN.{length, take}
+use Rattle.words.specs.Word.{pick}
 use Rattle.words.specs.Quad.{wordAt}
 use Rattle.geometry.specs.declared.banks.Geometry.{Geometry}
 use Rattle.words.specs.declared.decline.Decline.{Decline}
@@ -118,6 +120,9 @@ pub record Controller : Type 1 where
   pub declined-same : (g : Geometry) (s : State) (o : Operation) → acceptedOf (answerOf g s o) ≡ false → transitionOf g s o ≡ s
   -- registers always read within their masks
   pub masked : (g : Geometry) (s : State) → Sound g s → (r : ℕ) → r < 11 → withinOf r (registerOf (s .device) r) ≡ true
+  -- W-203: "a register read at key step 1 leaves the step at 1; at 2 or 3 it still closes the key"; at 0 it stays 0
+  pub read-key : (g : Geometry) (s : State) (r : ℕ) → acceptedOf (answerOf g s (registerRead r)) ≡ true
+      → let before = s .device .keystep in transitionOf g s (registerRead r) .device .keystep ≡ pick (eqb before 1) 1 0
   -- ---- what is written
   -- a step and a tear change at most the one quad of the step
   pub one-quad : (g : Geometry) (s : State) (sram : List ℕ) → OneQuad g s (transitionOf g s (step sram))

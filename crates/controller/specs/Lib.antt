@@ -1,2 +1,3 @@
 pub mod Protection
 pub mod Controller
+pub mod Probes

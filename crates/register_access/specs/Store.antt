@@ -14,7 +14,7 @@ use Rattle.register_access.specs.declared.RegisterRead.{RegisterRead}
 use Rattle.device.specs.Builders.{withCon, withStored}
 use Rattle.device.specs.Record.{registerOf, running}
 use Rattle.common_declines.specs.CommonDecline.{commonDeclineOf}
-use Rattle.register_fields.specs.Fields.{wantedOf, keyNextOf, pwpTakesOf, bwpTakesOf, con2TakesOf}
+use Rattle.register_fields.specs.Fields.{wantedOf, keyNextOf, keyAfterReadOf, pwpTakesOf, bwpTakesOf, con2TakesOf}
 use Rattle.launch.specs.ConStore.{conStoreOf}
 use Rattle.device.specs.Numbers.{NVMCON, NVMKEY, NVMADDR, NVMDATA0, NVMDATA1, NVMDATA2, NVMDATA3, NVMSRCADDR, NVMPWP, NVMBWP, NVMCON2, plain, invert}
 
@@ -72,9 +72,9 @@ storeOf g d r form value =
 unfoldable pub readDeclineOf : Geometry → Device → ℕ → Decline
 readDeclineOf g d r = firstOf (commonDeclineOf g d [] 0) (pick (ltb NVMCON2 r) Decline.Register Decline.Accepted)
 
--- "any register read, sets it to 0 afterwards"
+-- the value of the register; the key step is W-203's, where 01 had "any register read, sets it to 0 afterwards", and nothing else changes
 unfoldable pub registerReadOf : Geometry → Device → ℕ → RegisterRead
 registerReadOf g d r =
     pick (acceptedOf (readDeclineOf g d r))
-    (record { decline = readDeclineOf g d r; value = registerOf d r; device = withCon d (d .nvmcon .0) 0 (d .step) })
+    (record { decline = readDeclineOf g d r; value = registerOf d r; device = withCon d (d .nvmcon .0) (keyAfterReadOf (d .keystep)) (d .step) })
     (record { decline = readDeclineOf g d r; value = 0; device = d })

@@ -25,6 +25,7 @@ use geometry::lent::Lent;
 use launch::con_store::con_store;
 use register_fields::bwp_takes;
 use register_fields::con2_takes;
+use register_fields::key_after_read;
 use register_fields::key_next;
 use register_fields::pwp_takes;
 use register_fields::wanted;
@@ -151,7 +152,7 @@ fn read_decline(g: Geometry, d: Device, number: u32) -> Decline
     Decline::Accepted
 }
 
-// A read of a register: it shuts the key.
+// A read of a register: at key step 0 or 1 it changes nothing, at 2 or 3 it closes the key.
 pub fn register_read(g: Geometry, d: Device, number: u32) -> RegisterRead
     ensures { λ r. ⌜ r ≡ registerReadOf g d number ⌝ }
 {
@@ -160,7 +161,7 @@ pub fn register_read(g: Geometry, d: Device, number: u32) -> RegisterRead
         return RegisterRead {
             decline,
             value: register(d, number),
-            device: with_con(d, d.nvmcon.0, 0, d.step),
+            device: with_con(d, d.nvmcon.0, key_after_read(d.keystep), d.step),
         };
     }
     RegisterRead {

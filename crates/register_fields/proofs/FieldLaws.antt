@@ -1,7 +1,7 @@
 -- The masks of the fields that take a store are small, and each is inside its register's mask.
 -- Assumes nothing.
 use mathlib.Core.Path.{_≡_, refl}
-use mathlib.Core.Bool.{Bool, true, false, _&&_}
+use mathlib.Core.Bool.{Bool, true, false}
 use Prim.Native.Nat.{ℕ, _+_, _≤_, _/_, _%_}
 use native.Mathlib.Omega.{arith}
 use lib.Dec.{eqb}
@@ -12,7 +12,7 @@ use Rattle.device.specs.declared.record.Device.{Device}
 use Rattle.device.specs.Registers.{WREN, PFSWAP, BFSWAP, NVMOP, PWPULOCK, LBWPULOCK, UBWPULOCK, SWAPLOCK}
 use Rattle.device.specs.Record.{isOpen}
 use Rattle.register_fields.specs.Fields.{conTakesOf, pwpTakesOf, lowerTakesOf, upperTakesOf, bwpTakesOf}
-use Rattle.register_fields.specs.Fields.{keyedTakesOf, swaplockTakesOf, con2TakesOf, keyNextOf}
+use Rattle.register_fields.specs.Fields.{keyedTakesOf, swaplockTakesOf, con2TakesOf}
 
 pub lower-high : (d : Device) → lowerTakesOf d ≤ 0x9F00
 lower-high d = pick-both (λ (x : ℕ). x ≤ 0x9F00) (hasOf (d .nvmbwp .0) LBWPULOCK) (omega arith) (omega arith)
@@ -85,11 +85,3 @@ con-takes-enabled d enabled = rw enabled
 pub con-takes-shut : (d : Device) → hasOf (d .nvmcon .0) WREN ≡ false → isOpen d ≡ false → conTakesOf d ≡ WREN + NVMOP
 unfolding conTakesOf
 con-takes-shut d off shut = rw (off, shut, pick-same {A = ℕ} (hasOf (d .nvmcon2 .0) SWAPLOCK) 0)
-
--- ---- a key store leaves a key step
-pub key-next-high : (keystep value : ℕ) → keyNextOf keystep value ≤ 3
-unfolding keyNextOf
-key-next-high keystep value =
-    pick-both (λ (n : ℕ). n ≤ 3) (eqb value 0) (omega arith)
-    (pick-both (λ (n : ℕ). n ≤ 3) (eqb keystep 1 && eqb value 0xAA99_6655) (omega arith)
-    (pick-both (λ (n : ℕ). n ≤ 3) (eqb keystep 2 && eqb value 0x5566_99AA) (omega arith) (omega arith)))

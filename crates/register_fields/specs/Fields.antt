@@ -2,7 +2,7 @@
 -- Assumes nothing.
 use Prim.Native.Nat.{ℕ, _+_, _/_, _%_}
 use mathlib.Core.Bool.{_&&_}
-use lib.Dec.{eqb}
+use lib.Dec.{eqb, ltb}
 use lib.Bits.{bitOr, bitXor}
 use Rattle.words.specs.Word.{pick, hasOf, clearOf}
 use Rattle.device.specs.declared.record.Device.{Device}
@@ -23,6 +23,10 @@ keyNextOf keystep value =
     pick (eqb value key1) 1
     (pick (eqb keystep 1 && eqb value key2) 2
     (pick (eqb keystep 2 && eqb value key3) 3 0))
+
+-- W-203: "a register read at key step 1 leaves the step at 1; at 2 or 3 it still closes the key"; at 0 it stays 0
+unfoldable pub keyAfterReadOf : ℕ → ℕ
+keyAfterReadOf keystep = pick (ltb keystep 2) keystep 0
 
 -- "WREN: always. NVMOP: WREN = 0. PFSWAP, BFSWAP: WREN = 0, SWAPLOCK = 0, key open. WRERR and LVDERR: never."
 unfoldable pub conTakesOf : Device → ℕ

@@ -1,7 +1,7 @@
 // What a store asks for, and which fields of a register take it: each condition is judged on the device before the store.
 ghost use mathlib.Core.Path.{_≡_};
-ghost use Rattle.register_fields.specs.Fields.{wantedOf, keyNextOf, conTakesOf, pwpTakesOf, lowerTakesOf, upperTakesOf, bwpTakesOf};
-ghost use Rattle.register_fields.specs.Fields.{keyedTakesOf, swaplockTakesOf, con2TakesOf};
+ghost use Rattle.register_fields.specs.Fields.{wantedOf, keyNextOf, keyAfterReadOf, conTakesOf, pwpTakesOf};
+ghost use Rattle.register_fields.specs.Fields.{lowerTakesOf, upperTakesOf, bwpTakesOf, keyedTakesOf, swaplockTakesOf, con2TakesOf};
 use device::numbers::CLEAR;
 use device::numbers::KEY1;
 use device::numbers::KEY2;
@@ -50,6 +50,16 @@ pub fn key_next(keystep: u32, value: u32) -> u32
             return 3;
         }
         return 0;
+    }
+    0
+}
+
+// The key step after a register read.
+pub fn key_after_read(keystep: u32) -> u32
+    ensures { λ r. ⌜ r ≡ keyAfterReadOf keystep ⌝ }
+{
+    if keystep < 2 {
+        return keystep;
     }
     0
 }

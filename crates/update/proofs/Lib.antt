@@ -21,3 +21,5 @@ pub mod StartLaws
 pub mod RunLaws
 pub mod PowerFail
 pub mod Example
+pub mod KeyLaws
+pub mod Probes

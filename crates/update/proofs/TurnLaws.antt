@@ -117,7 +117,7 @@ module _ (g : Geometry) (s : State) (image sram : List ℕ) (place : ℕ) where
   turn-declined h = rw h
 
   -- and it answers by its list of declines
-  answers-so : turnOf g s image sram place .decline ≡ turnDeclineOf g s image (length sram) place
+  pub answers-so : turnOf g s image sram place .decline ≡ turnDeclineOf g s image (length sram) place
   unfolding turnOf
   answers-so = go (acceptedOf (turnDeclineOf g s image (length sram) place)) refl
     where
@@ -147,7 +147,7 @@ module _ (g : Geometry) (s : State) (image sram : List ℕ) (place : ℕ) where
       go false = refl
 
   -- an accepted turn before the total performs its action
-  performs : place < totalOf g → Accepts → turnOf g s image sram place ≡ performing
+  pub performs : place < totalOf g → Accepts → turnOf g s image sram place ≡ performing
   unfolding turnOf
   performs l h = rw (h, ne-eqb place (totalOf g) (λ e. omega arith))
 

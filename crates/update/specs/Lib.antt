@@ -5,3 +5,4 @@ pub mod PowerFail
 pub mod Bench
 pub mod Example
 pub mod Run
+pub mod Probes

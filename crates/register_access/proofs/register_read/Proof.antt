@@ -8,10 +8,11 @@ use Rattle.register_access.proofs.register_read.Tie as tie
 was-read : tie.Need-returns
 unfolding registerReadOf
 was-read c =
-    let test = c .before .before in
+    let test = c .before .before .before in
     rw (
       c .with-con .ensures,
-      c .before .register .ensures,
+      c .before .key-after-read .ensures,
+      c .before .before .register .ensures,
       ← test .before .before .read-decline .ensures,
       sym (test .before .is-accepted .ensures) ∙ test .if1 .taken,
     )
@@ -23,4 +24,4 @@ declined c = rw (← c .before .before .read-decline .ensures, sym (c .before .i
 pub register-read-spec : {M : Type 1} → statement M
 register-read-spec =
     tie.close
-    (tie.spec (λ c κs. search needs) (λ c κs. search needs) (λ c κs. search needs) (λ c κs. search needs) was-read declined)
+    (tie.spec (λ c κs. search needs) (λ c κs. search needs) (λ c κs. search needs) (λ c κs. search needs) (λ c κs. search needs) was-read declined)
