@@ -314,7 +314,10 @@ yohrundel_device yohrundel_power_on(void);
 /* Stores a value to a register in one of the forms. Declines 1, 3, 4 and 5. */
 yohrundel_event_answer yohrundel_store(yohrundel_geometry g, yohrundel_device d, uint32_t reg, uint32_t form, uint32_t value);
 
-/* Reads a register, which sets the key step to 0. Declines 1, 3 and 4. */
+/*
+ * Reads a register. At key step 0 or 1 nothing of the device changes, so that a probe may read beside an update; at 2 or 3 the key step
+ * becomes 0, and the store that the key was to open for is lost (docs/POWER-FAIL.md, "A probe beside an update"). Declines 1, 3 and 4.
+ */
 yohrundel_register_read_answer yohrundel_register_read(yohrundel_geometry g, yohrundel_device d, uint32_t reg);
 
 /*

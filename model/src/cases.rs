@@ -2,8 +2,9 @@
 
 mod requests;
 mod shapes;
+mod walks;
 
-pub use shapes::{Call, Shape, BASE, SHAPES};
+pub use shapes::{Call, Rest, Shape, BASE, SHAPES};
 
 use crate::device::{possible, protected, Device, REGISTERS};
 use crate::flash::{flash_read, lower_bank, page, reset, step};
@@ -67,8 +68,10 @@ impl Case {
         for _ in 0..shape.numbers {
             case.numbers.push(numbers.next()?);
         }
-        if shape.pairs {
-            case.numbers.extend(take_pairs(numbers)?);
+        match shape.rest {
+            Rest::Nothing => {}
+            Rest::Pairs => case.numbers.extend(take_pairs(numbers)?),
+            Rest::Moves => case.numbers.extend(walks::take_moves(numbers)?),
         }
         Some(case)
     }
@@ -105,6 +108,7 @@ impl Case {
             }
             Call::Protected => vec![u32::from(self.answer_protected()?)],
             Call::ValidBySum => vec![u32::from(valid(self.numbers[0]))],
+            Call::Walk => self.answer_walk(),
             _ => match self.answer_call() {
                 Ok(mut outputs) => {
                     outputs.insert(0, 0);

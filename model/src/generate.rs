@@ -10,6 +10,7 @@ mod plans;
 mod record_edges;
 mod scripts;
 mod sheets;
+mod walks;
 
 pub use memory::{old_bank_one, random_image};
 pub use places::{accepted_start, Start};

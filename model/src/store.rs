@@ -199,7 +199,10 @@ pub fn register_read(numbers: [u32; 3], device: Device, register: u32) -> Answer
     check_register(register)?;
     let row = register as usize;
     let mut after = device;
-    after.key_step = 0;
+    // W-203: "at key step 1 leaves the step at 1; at 2 or 3 it still closes the key"
+    if after.key_step != 1 {
+        after.key_step = 0;
+    }
     Ok((device.registers[row] & MASKS[row], after))
 }
 

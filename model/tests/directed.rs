@@ -8,6 +8,9 @@ use model::generate::directed::{cases, ordered, ordered_sheets, request_cases};
 use model::generate::{line, record_edges, refused_scripts};
 use model::script::play;
 
+/// The numbers of a device.
+const DEVICE: usize = 13;
+
 /// Where NVMCON stands in an answer that gives a device.
 const CON: usize = 1;
 
@@ -28,6 +31,11 @@ fn numbers(case: &Case) -> Vec<u32> {
 /// What became of a case, in a few words.
 fn outcome(case: &Case) -> String {
     let numbers = numbers(case);
+    if case.call == Call::Walk {
+        // A walk has no answer of its own; what its moves changed in the banks follows the device.
+        let changed = numbers[3 * case.numbers[0] as usize + DEVICE];
+        return String::from(if changed > 0 { "written" } else { "untouched" });
+    }
     let named = matches!(
         case.call,
         Call::Compare | Call::Possible | Call::Protected | Call::ValidBySum
@@ -101,6 +109,8 @@ fn both_sides_of_each_subject_occur() {
         ("lanes", "lanes_out", "accepted 22"),
         ("lanes", "lanes_back", "accepted 22"),
         ("sums", "valid_by_sum", "0 1"),
+        ("probes", "register_read", "accepted 4"),
+        ("probes", "walk", "written untouched"),
     ] {
         let expected: BTreeSet<String> = expected.split(' ').map(String::from).collect();
         assert_eq!(outcomes[&(subject, call)], expected, "{subject} {call}");

@@ -9,7 +9,7 @@ use model::script::{play, records};
 /// The declines of each call.
 fn declines(call: Call) -> &'static [u32] {
     match call {
-        Call::Compare | Call::Possible | Call::Protected | Call::ValidBySum => &[],
+        Call::Compare | Call::Possible | Call::Protected | Call::ValidBySum | Call::Walk => &[],
         Call::Store => &[1, 3, 4, 5],
         Call::RegisterRead => &[1, 3, 4],
         Call::FlashRead => &[1, 2, 3, 8, 9],
@@ -110,7 +110,9 @@ fn every_decline_occurs() {
             .or_default()
             .insert(first_number(&answer));
     }
-    for shape in &SHAPES {
+    // A walk has no answer of its own.
+    let answered = SHAPES.iter().filter(|shape| shape.call != Call::Walk);
+    for shape in answered {
         let numbers = &seen[shape.name];
         let mut expected: BTreeSet<u32> = declines(shape.call).iter().copied().collect();
         match shape.call {

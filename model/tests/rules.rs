@@ -138,6 +138,16 @@ fn reads() {
     assert_eq!(flash_read(SMALL, &open, &banks, 0x1FC0_0014), Ok(word));
     let (value, after) = register_read(SMALL, open, NVMBWP as u32).unwrap();
     assert_eq!((value, after.key_step), (0x9FDF, 0));
+    for (before, left) in [(0, 0), (1, 1), (2, 0), (3, 0)] {
+        let key_step = before;
+        let device = Device { key_step, ..open };
+        let (_, after) = register_read(SMALL, device, NVMCON as u32).unwrap();
+        let expected = Device {
+            key_step: left,
+            ..device
+        };
+        assert_eq!(after, expected);
+    }
     let running = stored(ready(4, 0x1D00_0080), NVMCON, SET, WR);
     assert_eq!(flash_read(SMALL, &running, &banks, 0x1FC0_0014), Ok(word));
     let refused = flash_read(SMALL, &running, &banks, 0x1FC2_0014);

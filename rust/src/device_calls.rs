@@ -16,7 +16,7 @@ pub struct Stored {
 pub struct RegisterRead {
     /// The register's value.
     pub value: u32,
-    /// The device afterwards: the key step is 0.
+    /// The device afterwards: as it was where the key step was 0 or 1; where it was 2 or 3 it is 0, and nothing else changed.
     pub device: Device,
 }
 
@@ -37,6 +37,9 @@ pub fn store(
 }
 
 /// Reads a register.
+///
+/// A probe may read beside an update while the key step is 0 or 1. A read at key step 2 or 3 closes the key, and the store that it was to
+/// open for is lost: docs/POWER-FAIL.md, "A probe beside an update".
 pub fn register_read(
     geometry: Geometry,
     device: Device,

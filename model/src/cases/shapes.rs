@@ -20,6 +20,7 @@ pub enum Call {
     LanesOut,
     LanesBack,
     ValidBySum,
+    Walk,
 }
 
 /// The inputs of a call, in the order in which a line gives them.
@@ -32,8 +33,17 @@ pub struct Shape {
     /// How many of the lists, the last ones, are lists of bytes.
     pub bytes: usize,
     pub numbers: usize,
-    /// Whether a count and that many pairs follow the numbers.
-    pub pairs: bool,
+    pub rest: Rest,
+}
+
+/// What follows the numbers.
+#[derive(Clone, Copy)]
+pub enum Rest {
+    Nothing,
+    /// A count and that many pairs.
+    Pairs,
+    /// A count and that many moves of a walk, each with its numbers.
+    Moves,
 }
 
 const fn shape(
@@ -52,12 +62,12 @@ const fn shape(
         lists,
         bytes: 0,
         numbers,
-        pairs: false,
+        rest: Rest::Nothing,
     }
 }
 
 /// The calls of the base stand first, those of later requests follow.
-pub const SHAPES: [Shape; 18] = [
+pub const SHAPES: [Shape; 19] = [
     shape(Call::Compare, "compare", false, false, 0, 2),
     shape(Call::Possible, "possible", true, true, 0, 0),
     shape(Call::Protected, "protected", true, true, 0, 3),
@@ -72,7 +82,7 @@ pub const SHAPES: [Shape; 18] = [
     shape(Call::UpdateStart, "update_start", true, true, 3, 0),
     shape(Call::Turn, "turn", true, true, 4, 1),
     Shape {
-        pairs: true,
+        rest: Rest::Pairs,
         ..shape(Call::Plan, "plan", false, false, 0, 2)
     },
     Shape {
@@ -88,6 +98,10 @@ pub const SHAPES: [Shape; 18] = [
         ..shape(Call::LanesBack, "lanes_back", false, false, 2, 0)
     },
     shape(Call::ValidBySum, "valid_by_sum", false, false, 0, 1),
+    Shape {
+        rest: Rest::Moves,
+        ..shape(Call::Walk, "walk", true, true, 3, 0)
+    },
 ];
 
 /// How many calls the base has.

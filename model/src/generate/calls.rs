@@ -15,6 +15,7 @@ use super::memory;
 use super::places::{self, Start};
 use super::plans::plan_case;
 use super::sheets::page_sheet_case;
+use super::walks::walk_case;
 use super::MOST_WORDS;
 
 /// How seldom one input is spoiled: once in this many cases.
@@ -59,6 +60,7 @@ fn fill_case(random: &mut Random, geometry: &Geometry, case: &mut Case) {
         Call::Plan => plan_case(random, case),
         Call::PageSheet => page_sheet_case(random, geometry, case),
         Call::LanesOut | Call::LanesBack => lanes_case(random, case),
+        Call::Walk => walk_case(random, geometry, case),
         Call::ValidBySum => case.numbers = vec![memory::sequence_word(random)],
     }
 }

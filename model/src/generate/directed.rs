@@ -9,6 +9,7 @@ mod orders;
 mod pages;
 mod parts;
 mod plans;
+mod probes;
 mod protection;
 mod reads;
 mod resets;
@@ -59,11 +60,12 @@ pub const SUBJECTS: [Subject; 16] = [
 ];
 
 /// Subjects of the calls that later requests added.
-pub const REQUEST_SUBJECTS: [Subject; 4] = [
+pub const REQUEST_SUBJECTS: [Subject; 5] = [
     subject("plans", plans::cases),
     subject("sheets", sheets::cases),
     subject("lanes", lanes::cases),
     subject("sums", sums::cases),
+    subject("probes", probes::cases),
 ];
 
 /// The cases of the base's subjects.

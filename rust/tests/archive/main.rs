@@ -12,6 +12,7 @@ mod inputs;
 mod lent;
 mod names;
 mod play_cases;
+mod probes;
 mod requests;
 mod rules;
 mod scripts;

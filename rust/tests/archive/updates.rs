@@ -25,18 +25,18 @@ const SIGNS: [[u32; 3]; 8] = [
 const LARGEST: [u32; 3] = [128, 5, 64];
 
 /// One sign in the archive and in the model.
-struct Sign {
+pub struct Sign {
     numbers: [u32; 3],
     geometry: Geometry,
     image: Vec<u32>,
-    device: Device,
-    banks: [Vec<u32>; 2],
+    pub device: Device,
+    pub banks: [Vec<u32>; 2],
     outside_device: OutsideDevice,
     outside_banks: [Vec<u32>; 2],
     /// The index of the bank that runs at the start, and what both banks must come to.
     old: usize,
     old_words: Vec<u32>,
-    new_words: Vec<u32>,
+    pub new_words: Vec<u32>,
     turns: u64,
 }
 
@@ -62,7 +62,7 @@ fn index(bank: Option<Bank>) -> usize {
 }
 
 impl Sign {
-    fn new(numbers: [u32; 3], start: Start) -> Sign {
+    pub fn new(numbers: [u32; 3], start: Start) -> Sign {
         let [q, b, p] = numbers;
         let geometry = Geometry { q, b, p };
         let sequence = geometry.sequence_index().expect("a sequence word");
@@ -92,7 +92,7 @@ impl Sign {
         assert!(self.banks == self.outside_banks, "{stage}: the banks");
     }
 
-    fn start(&self) -> u32 {
+    pub fn start(&self) -> u32 {
         let [one, two] = &self.banks;
         let started = update_start(self.geometry, self.device, one, two, &self.image);
         let [mut one, mut two] = self.outside_banks.clone();
@@ -108,7 +108,7 @@ impl Sign {
     }
 
     /// One turn, with the device lent at even places; the place after it, none where done.
-    fn turn(&mut self, sram: &[u32], place: u32) -> Option<u32> {
+    pub fn turn(&mut self, sram: &[u32], place: u32) -> Option<u32> {
         let [one, two] = &mut self.outside_banks;
         let mut banks = Banks { one, two };
         let (numbers, before) = (self.numbers, self.outside_device);
@@ -133,6 +133,19 @@ impl Sign {
         (!done).then_some(place)
     }
 
+    /// A register read; the values agree.
+    pub fn read(&mut self, register: u32) {
+        let (numbers, before) = (self.numbers, self.outside_device);
+        let (value, after) = store::register_read(numbers, before, register)
+            .expect("the model takes the register read");
+        self.outside_device = after;
+        let read = register_read(self.geometry, self.device, register)
+            .expect("the archive takes the register read");
+        self.device = read.device;
+        assert_eq!(read.value, value);
+        self.compare("register read");
+    }
+
     /// Turns from place 0 up to a place, and where asked on until an operation runs.
     fn run(&mut self, sram: &[u32], last: u32, into_step: bool) -> u32 {
         let mut place = 0;
@@ -147,7 +160,7 @@ impl Sign {
     }
 
     /// A reset and a start-up; the index of the bank that runs.
-    fn restart(&mut self, sram: &[u32], kind: u32, mask: [u32; 4]) -> usize {
+    pub fn restart(&mut self, sram: &[u32], kind: u32, mask: [u32; 4]) -> usize {
         let [one, two] = &mut self.outside_banks;
         let mut banks = Banks { one, two };
         let (numbers, before) = (self.numbers, self.outside_device);
@@ -165,7 +178,7 @@ impl Sign {
     }
 
     /// "the old bank, whole, or exactly the new one": true where the new one runs.
-    fn runs_new(&self, runs: usize) -> bool {
+    pub fn runs_new(&self, runs: usize) -> bool {
         let whole = self.banks[self.old] == self.old_words;
         assert!(whole, "the old bank is not whole");
         if runs != self.old {

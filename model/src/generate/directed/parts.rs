@@ -168,7 +168,7 @@ pub fn case(call: Call, geometry: &Geometry, device: Device) -> Case {
     case
 }
 
-fn lists(case: &mut Case, banks: &Pair) {
+pub fn lists(case: &mut Case, banks: &Pair) {
     case.lists = banks.iter().map(|bank| List::from_words(bank)).collect();
 }
 

@@ -7,6 +7,7 @@ mod plan;
 mod rules;
 mod sheet;
 mod updates;
+mod walk;
 
 use yohrundel::Decline;
 
@@ -58,6 +59,8 @@ const CALLS: &[(&str, Call)] = &[
     ("lanes_out", lanes::lanes_out),
     ("lanes_back", lanes::lanes_back),
     ("valid_by_sum", rules::valid_by_sum),
+    // Lists of calls.
+    ("walk", walk::walk),
 ];
 
 /// What stands right of the bar.

@@ -10,6 +10,10 @@ use crate::inputs::Banks;
 pub struct Outputs(Vec<u64>);
 
 impl Outputs {
+    pub fn none() -> Outputs {
+        Outputs(Vec::new())
+    }
+
     pub fn only(number: u32) -> Outputs {
         Outputs(vec![number.into()])
     }
