@@ -33,7 +33,8 @@ fn restarted(given: Restarted) -> Answer
     if !decline.is_accepted() {
         return first;
     }
-    with_device(first, given.device)
+    let reason = given.reason;
+    with_device(first, given.device).with(reason.number())
 }
 
 pub fn step_answer(

@@ -12,13 +12,14 @@ use geometry::banks::in_range;
 use protection::is_protected;
 use register_access::register_read;
 use register_access::store;
-use sequence::bfswap;
+use sequence::comparison::compare;
 use start_up::start_up;
 
 pub fn compare_answer(words: [u32; 20]) -> Answer
     ensures { λ r. ⌜ r .count ≤ 20 ⌝ }
 {
-    if bfswap(words[0], words[1]) {
+    let c = compare(words[0], words[1]);
+    if c.second {
         return Answer::only(2);
     }
     Answer::only(1)

@@ -8,7 +8,7 @@ use Rattle.controller.proofs.DeviceLaws.{power-on-possible}
 use Rattle.controller.specs.Controller.Operation.{step, reset}
 use Rattle.controller.proofs.WriteLaws.{writes-one-quad, one-quad}
 use Rattle.controller.proofs.ProtectedPageLaws.{keeps}
-use Rattle.controller.proofs.RunLaws.{run-sound, declined-same, compared}
+use Rattle.controller.proofs.RunLaws.{run-sound, declined-same, compared, not-compared, none-valid}
 use Rattle.controller.proofs.ProbeLaws.{read-key}
 use Rattle.controller.proofs.StartUpLaws.{start-up-runs, start-up-accepted, start-up-sound, start-up-cut}
 
@@ -25,6 +25,8 @@ controller =
       one-quad-torn = λ g s sram kind mask. one-quad g s _ (writes-one-quad g s (reset sram kind mask));
       keeps = keeps;
       compared = compared;
+      not-compared = not-compared;
+      none-valid = none-valid;
       start-up-runs = start-up-runs;
       start-up-accepted = start-up-accepted;
       start-up-sound = start-up-sound;

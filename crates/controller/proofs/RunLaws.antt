@@ -1,13 +1,14 @@
 -- Every list of operations leaves a possible device and banks of unchanged length, since each operation does; a declined operation
 -- changes nothing; after a reset BFSWAP is the comparison.
 -- Assumes nothing.
-use mathlib.Core.Path.{_≡_, refl, sym, _∙_}
-use mathlib.Core.Bool.{Bool, true, false}
+use mathlib.Core.Path.{_≡_, refl, sym, ap, _∙_}
+use mathlib.Core.Bool.{Bool, true, false, not}
 use mathlib.Core.List.{List, [], _∷_, _++_}
 use Prim.Native.Nat.{ℕ}
 use lib.Dec.{eqb}
 use Rattle.words.proofs.PickLaws.{pick-both}
 use Rattle.words.proofs.BitLaws.{true-not-false}
+use Rattle.words.specs.Quad.{wordAt}
 use Rattle.geometry.specs.declared.banks.Geometry.{Geometry}
 use Rattle.words.specs.Decline.{acceptedOf}
 use Rattle.device.specs.declared.record.Device.{Device}
@@ -17,14 +18,18 @@ use Rattle.device.specs.Record.{bfswap}
 use Rattle.common_declines.specs.Possible.{possibleOf}
 use Rattle.register_access.specs.Store.{storeDeclineOf, storeAcceptedOf, storeOf, readDeclineOf, registerReadOf}
 use Rattle.flash.proofs.AcceptedLaws.{step-ready}
-use Rattle.resets.specs.Reset.{comparedOf}
+use Rattle.sequence.specs.declared.comparison.Reason.{Reason}
+use Rattle.sequence.specs.Sequence.{sequenceIndexOf}
+use Rattle.sequence.specs.Comparison.{reasonNumberOf, comparison, compareOf}
+use Rattle.sequence.proofs.ComparisonLaws.{reasons}
+use Rattle.resets.specs.Reset.{tearOf, comparisonOf, resetReasonOf}
 use Rattle.resets.proofs.AcceptedLaws.{reset-ready}
 use Rattle.device.specs.State.{State, state}
 use Rattle.controller.specs.Controller.{Operation, answerOf, transitionOf, runOf, AllAccepted, BringsWord, BringWords, Sound}
 use Rattle.controller.specs.Controller.Operation.{store, registerRead, flashRead, step, reset}
 use Rattle.controller.proofs.StoreLaws.{store-possible, read-leaves-possible}
 use Rattle.controller.proofs.DeviceLaws.{advance-possible, reset-possible, reset-swap}
-use Rattle.controller.proofs.WriteLaws.{by-step, by-reset, writes-one-quad, bank-length}
+use Rattle.controller.proofs.WriteLaws.{by-step, by-reason, by-reset, writes-one-quad, bank-length}
 
 -- ---- what an accepted operation leaves, and what a declined one
 pub by-store : (g : Geometry) (d : Device) (r form value : ℕ) (P : Answer → Type 0)
@@ -117,11 +122,36 @@ declined-same g s (step sram) h =
 declined-same g s (reset sram kind mask) h =
     by-reset g s sram kind mask (λ a. acceptedOf (a .decline) ≡ false → a .state ≡ s) (λ on h. true-not-false h) (λ off h. refl) h
 
--- ---- after a reset BFSWAP is the comparison
+-- ---- after a reset BFSWAP and the reason are the comparison
 pub compared : (g : Geometry) (s : State) (sram : List ℕ) (kind : ℕ) (mask : List ℕ) → acceptedOf (answerOf g s (reset sram kind mask)) ≡ true
-    → let t = transitionOf g s (reset sram kind mask) in bfswap (t .device) ≡ comparedOf g (t .one) (t .two)
+    → let t = transitionOf g s (reset sram kind mask) in
+    comparison (bfswap (t .device)) (resetReasonOf g s sram kind mask)
+    ≡ compareOf (wordAt (t .one) (sequenceIndexOf g)) (wordAt (t .two) (sequenceIndexOf g))
 compared g s sram kind mask =
-    by-reset g s sram kind mask
-    (λ a. acceptedOf (a .decline) ≡ true → bfswap (a .state .device) ≡ comparedOf g (a .state .one) (a .state .two))
-    (λ on h. reset-swap g (s .device) (reset-ready g (s .device) _ _ _ kind on .possible) kind _)
+    by-reason g s sram kind mask
+    (λ e. acceptedOf (e .after .decline) ≡ true → let t = e .after .state in
+    comparison (bfswap (t .device)) (e .reason) ≡ compareOf (wordAt (t .one) (sequenceIndexOf g)) (wordAt (t .two) (sequenceIndexOf g)))
+    (λ on h.
+    ap (λ (b : Bool). let t = tearOf g s sram mask in comparison b (comparisonOf g (t .one) (t .two) .reason))
+    (reset-swap g (s .device) (reset-ready g (s .device) _ _ _ kind on .possible) kind _))
     (λ off h. true-not-false (sym h ∙ off))
+
+-- the comparison itself never says so
+was-compared : (first other : ℕ) → eqb (reasonNumberOf (compareOf first other .reason)) 4 ≡ false
+was-compared first other = reasons first other .compared
+
+pub not-compared : (g : Geometry) (s : State) (sram : List ℕ) (kind : ℕ) (mask : List ℕ)
+    → eqb (reasonNumberOf (resetReasonOf g s sram kind mask)) 4 ≡ not (acceptedOf (answerOf g s (reset sram kind mask)))
+not-compared g s sram kind mask =
+    by-reason g s sram kind mask (λ e. eqb (reasonNumberOf (e .reason)) 4 ≡ not (acceptedOf (e .after .decline)))
+    (λ on. was-compared _ _)
+    (λ off. rw off)
+
+pub none-valid : (g : Geometry) (s : State) (sram : List ℕ) (kind : ℕ) (mask : List ℕ) → resetReasonOf g s sram kind mask ≡ Reason.NoneValid
+    → bfswap (transitionOf g s (reset sram kind mask) .device) ≡ false
+none-valid g s sram kind mask =
+    by-reason g s sram kind mask (λ e. e .reason ≡ Reason.NoneValid → bfswap (e .after .state .device) ≡ false)
+    (λ on none.
+    reset-swap g (s .device) (reset-ready g (s .device) _ _ _ kind on .possible) kind _
+    ∙ reasons _ _ .none-bank (ap (λ (r : Reason). eqb (reasonNumberOf r) 3) none))
+    (λ off none. true-not-false (ap (λ (r : Reason). eqb (reasonNumberOf r) 4) none))

@@ -22,7 +22,8 @@ use Rattle.flash.specs.Write.{oneAfter, twoAfter}
 use Rattle.flash.specs.Step.{stepEffectOf, steppedOf, stepAnswerOf, stepOf}
 use Rattle.flash.proofs.EffectLaws.{effect-second, effect-quad}
 use Rattle.flash.proofs.AcceptedLaws.{runs, step-ready}
-use Rattle.resets.specs.Reset.{tornOf, tearOf, restartOf, resetAnswerOf, resetOf}
+use Rattle.sequence.specs.declared.comparison.Reason.{Reason}
+use Rattle.resets.specs.Reset.{tornOf, tearOf, comparisonOf, restartOf, resetAnswerOf, Explained, explained, explainedOf, resetOf}
 use Rattle.resets.proofs.AcceptedLaws.{reset-ready}
 use Rattle.device.specs.State.{State, bankOf, After, after}
 use Rattle.controller.specs.Controller.{Operation, transitionOf, Outside, stepSecondOf, stepQuadOf, OneQuad}
@@ -42,17 +43,24 @@ by-step g s sram P yes′ no′ = go (acceptedOf (stepAnswerOf g s sram)) refl
     go true e = yes′ e
     go false e = no′ e
 
+-- what holds of what a reset that is carried out leaves, and of what a declined one does
+pub by-reason : (g : Geometry) (s : State) (sram : List ℕ) (kind : ℕ) (mask : List ℕ) (P : Explained → Type 0)
+    → (acceptedOf (resetAnswerOf g s sram kind) ≡ true
+    → let t = tearOf g s sram mask in P (explained (restartOf g t kind) (comparisonOf g (t .one) (t .two) .reason)))
+    → (acceptedOf (resetAnswerOf g s sram kind) ≡ false → P (explained (after (resetAnswerOf g s sram kind) s false) Reason.NotCompared))
+    → P (explainedOf g s sram kind mask)
+unfolding explainedOf
+by-reason g s sram kind mask P yes′ no′ = go (acceptedOf (resetAnswerOf g s sram kind)) refl
+  where
+    go : (t : Bool) → acceptedOf (resetAnswerOf g s sram kind) ≡ t → P (explainedOf g s sram kind mask)
+    go true e = rw e (yes′ e)
+    go false e = rw e (no′ e)
+
 pub by-reset : (g : Geometry) (s : State) (sram : List ℕ) (kind : ℕ) (mask : List ℕ) (P : After → Type 0)
     → (acceptedOf (resetAnswerOf g s sram kind) ≡ true → P (restartOf g (tearOf g s sram mask) kind))
     → (acceptedOf (resetAnswerOf g s sram kind) ≡ false → P (after (resetAnswerOf g s sram kind) s false))
     → P (resetOf g s sram kind mask)
-unfolding resetOf
-by-reset g s sram kind mask P yes′ no′ = go (acceptedOf (resetAnswerOf g s sram kind)) refl
-  where
-    go : (t : Bool) → acceptedOf (resetAnswerOf g s sram kind) ≡ t
-        → P (pick t (restartOf g (tearOf g s sram mask) kind) (after (resetAnswerOf g s sram kind) s false))
-    go true e = yes′ e
-    go false e = no′ e
+by-reset g s sram kind mask P = by-reason g s sram kind mask (λ e. P (e .after))
 
 -- ---- the write of an operation
 -- the banks of t are those of s but for at most one write, of the quad of the next step

@@ -23,7 +23,10 @@ use Rattle.register_access.specs.Store.{storeOf, registerReadOf}
 use Rattle.start_up.specs.StartUp.{Access, startUpStores, startUpOf}
 use Rattle.flash.specs.Effect.{stepLocationOf}
 use Rattle.flash.specs.Step.{stepOf}
-use Rattle.resets.specs.Reset.{comparedOf, resetOf}
+use Rattle.sequence.specs.declared.comparison.Reason.{Reason}
+use Rattle.sequence.specs.Sequence.{sequenceIndexOf}
+use Rattle.sequence.specs.Comparison.{reasonNumberOf, comparison, compareOf}
+use Rattle.resets.specs.Reset.{resetOf, resetReasonOf}
 use Rattle.reads.specs.Read.{secondAtOf, flashReadOf}
 use Rattle.controller.specs.Protection.{protectedPageOf}
 
@@ -130,9 +133,17 @@ pub record Controller : Type 1 where
   -- no operation changes a page that is protected at that time, nor the length of a bank
   pub keeps : (g : Geometry) (s : State) (o : Operation) → Keeps g s (transitionOf g s o)
   -- ---- reset and start-up
-  -- after a reset BFSWAP is the comparison of what the banks then hold
+  -- after a reset BFSWAP and the reason that it passes on are the comparison of the sequence words that the banks then hold
   pub compared : (g : Geometry) (s : State) (sram : List ℕ) (kind : ℕ) (mask : List ℕ) → acceptedOf (answerOf g s (reset sram kind mask)) ≡ true
-      → let t = transitionOf g s (reset sram kind mask) in bfswap (t .device) ≡ comparedOf g (t .one) (t .two)
+      → let t = transitionOf g s (reset sram kind mask) in
+      comparison (bfswap (t .device)) (resetReasonOf g s sram kind mask)
+      ≡ compareOf (wordAt (t .one) (sequenceIndexOf g)) (wordAt (t .two) (sequenceIndexOf g))
+  -- a declined reset, and no other, has compared nothing
+  pub not-compared : (g : Geometry) (s : State) (sram : List ℕ) (kind : ℕ) (mask : List ℕ)
+      → eqb (reasonNumberOf (resetReasonOf g s sram kind mask)) 4 ≡ not (acceptedOf (answerOf g s (reset sram kind mask)))
+  -- W-205: "With none valid the sign still maps bank 1, with its reason."
+  pub none-valid : (g : Geometry) (s : State) (sram : List ℕ) (kind : ℕ) (mask : List ℕ) → resetReasonOf g s sram kind mask ≡ Reason.NoneValid
+      → bfswap (transitionOf g s (reset sram kind mask) .device) ≡ false
   -- a start-up, a declined one too, is the run of its stores as operations
   pub start-up-runs : (g : Geometry) (s : State)
       → state (startUpOf g (s .device) .device) (s .one) (s .two) ≡ runOf g s (storeOperations (startUpStores (s .device)))

@@ -10,7 +10,10 @@ use Rattle.words.specs.Quad.{wordAt, quadAt, mergeQuadOf}
 use Rattle.geometry.specs.declared.banks.Geometry.{Geometry}
 use Rattle.words.specs.declared.decline.Decline.{Decline}
 use Rattle.words.specs.Decline.{acceptedOf, firstOf}
-use Rattle.sequence.specs.Sequence.{sequenceIndexOf, bfswapOf}
+use Rattle.sequence.specs.declared.comparison.Reason.{Reason}
+use Rattle.sequence.specs.declared.comparison.Comparison.{Comparison}
+use Rattle.sequence.specs.Sequence.{sequenceIndexOf}
+use Rattle.sequence.specs.Comparison.{compareOf}
 use Rattle.device.specs.declared.record.Device.{Device}
 use Rattle.device.specs.Registers.{WR, WREN, LVDERR, PFSWAP, BFSWAP, NVMERS, resets}
 use Rattle.device.specs.Builders.{powerOn, withCon, withStored}
@@ -50,9 +53,12 @@ tornOf s mask w =
 abbrev pub tearOf : Geometry → State → List ℕ → List ℕ → State
 tearOf g s sram mask = writtenOf s (s .device) (tornOf s mask (effectOf g s sram .write))
 
--- BFSWAP by the comparison of what two banks hold
+-- the comparison of what two banks hold, and BFSWAP by it
+abbrev pub comparisonOf : Geometry → List ℕ → List ℕ → Comparison
+comparisonOf g one two = compareOf (wordAt one (sequenceIndexOf g)) (wordAt two (sequenceIndexOf g))
+
 abbrev pub comparedOf : Geometry → List ℕ → List ℕ → Bool
-comparedOf g one two = bfswapOf (wordAt one (sequenceIndexOf g)) (wordAt two (sequenceIndexOf g))
+comparedOf g one two = comparisonOf g one two .second
 
 -- NVMCON but for BFSWAP: "Kinds 1 and 2 clear WR, WREN, PFSWAP"; "Kind 1 with WR = 1 also sets LVDERR."
 unfoldable pub resetConOf : Device → ℕ → ℕ
@@ -79,6 +85,23 @@ restartOf g s kind = after Decline.Accepted (state (resetDeviceOf (s .device) ki
 abbrev pub resetAnswerOf : Geometry → State → List ℕ → ℕ → Decline
 resetAnswerOf g s sram kind = resetDeclineOf g (s .device) (length (s .one)) (length (s .two)) (length sram) kind
 
-unfoldable pub resetOf : Geometry → State → List ℕ → ℕ → List ℕ → After
-resetOf g s sram kind mask =
-    pick (acceptedOf (resetAnswerOf g s sram kind)) (restartOf g (tearOf g s sram mask) kind) (after (resetAnswerOf g s sram kind) s false)
+-- what a reset leaves, with the reason of its comparison beside it
+pub record Explained : Type 0 where
+  pub after : After
+  pub reason : Reason
+
+abbrev pub explained : After → Reason → Explained
+explained a reason = record { after = a; reason = reason }
+
+-- W-205: "Reset passes it on": the reason is that of the comparison after the tear; a declined reset has compared nothing
+unfoldable pub explainedOf : Geometry → State → List ℕ → ℕ → List ℕ → Explained
+explainedOf g s sram kind mask =
+    pick (acceptedOf (resetAnswerOf g s sram kind))
+    (let t = tearOf g s sram mask in explained (restartOf g t kind) (comparisonOf g (t .one) (t .two) .reason))
+    (explained (after (resetAnswerOf g s sram kind) s false) Reason.NotCompared)
+
+abbrev pub resetOf : Geometry → State → List ℕ → ℕ → List ℕ → After
+resetOf g s sram kind mask = explainedOf g s sram kind mask .after
+
+abbrev pub resetReasonOf : Geometry → State → List ℕ → ℕ → List ℕ → Reason
+resetReasonOf g s sram kind mask = explainedOf g s sram kind mask .reason

@@ -10,7 +10,7 @@ ghost use Rattle.common_declines.specs.Possible.{possibleOf};
 ghost use Rattle.device.specs.Record.{running};
 ghost use Rattle.flash.specs.Effect.{Runs, effectOf};
 ghost use Rattle.device.specs.State.{lent, after};
-ghost use Rattle.resets.specs.Reset.{resetDeclineOf, tornOf, tearOf, comparedOf, resetConOf, resetDeviceOf, resetOf};
+ghost use Rattle.resets.specs.Reset.{resetDeclineOf, tornOf, tearOf, comparisonOf, resetConOf, resetDeviceOf, explained, explainedOf};
 use common_declines::common_decline::common_decline;
 use device::builders::power_on;
 use device::builders::with_con;
@@ -26,7 +26,9 @@ use flash::write::Write;
 use flash::write::apply;
 use geometry::banks::Geometry;
 use geometry::lent::Lent;
-use sequence::bfswap;
+use sequence::comparison::Comparison;
+use sequence::comparison::Reason;
+use sequence::comparison::compare;
 use sequence::sequence_index;
 use words::decline::Decline;
 use words::quad::merge_quad;
@@ -41,10 +43,11 @@ pub const BROWN_OUT_RESET: u32 = 1;
 
 pub const OTHER_RESET: u32 = 2;
 
-// The answer to a reset. Where it is declined the device and the banks are as before.
+// The answer to a reset, with the reason of its comparison. Where it is declined the device and the banks are as before.
 pub struct Restarted {
     pub decline: Decline,
     pub device: Device,
+    pub reason: Reason,
 }
 
 fn reset_decline(g: Geometry, d: Device, one: usize, two: usize, sram: usize, kind: u32) -> Decline
@@ -97,14 +100,14 @@ fn tear(g: Geometry, d: Device, one: &mut [u32], two: &mut [u32], sram: &[u32], 
     apply(one, two, w);
 }
 
-// BFSWAP by the comparison of the two banks. No call of the device: its callers judge the lengths first.
-pub fn compared(g: Geometry, one: &[u32], two: &[u32]) -> bool
+// The comparison of the two banks. No call of the device: its callers judge the lengths first.
+pub fn compared(g: Geometry, one: &[u32], two: &[u32]) -> Comparison
     requires { ⌜ InRange g ⌝ }
     requires { ⌜ (length (now one) ≡ bankWordsOf g) × (length (now two) ≡ bankWordsOf g) ⌝ }
-    ensures { λ r. ⌜ r ≡ comparedOf g (now (one .entry)) (now (two .entry)) ⌝ }
+    ensures { λ r. ⌜ r ≡ comparisonOf g (now (one .entry)) (now (two .entry)) ⌝ }
 {
     let i = sequence_index(g) as usize;
-    bfswap(one[i], two[i])
+    compare(one[i], two[i])
 }
 
 // NVMCON after a reset, but for BFSWAP.
@@ -164,17 +167,23 @@ pub fn reset(
     kind: u32,
     mask: [u32; 4],
 ) -> Restarted
-    ensures { λ r. ⌜ after (r .decline) (lent (r .device) (one .exit) (two .exit)) false
-        ≡ resetOf g (lent d (one .entry) (two .entry)) (now (sram .entry)) kind mask ⌝ }
+    ensures { λ r. ⌜ explained (after (r .decline) (lent (r .device) (one .exit) (two .exit)) false) (r .reason)
+        ≡ explainedOf g (lent d (one .entry) (two .entry)) (now (sram .entry)) kind mask ⌝ }
 {
     let decline = reset_decline(g, d, one.len(), two.len(), sram.len(), kind);
     if !decline.is_accepted() {
-        return Restarted { decline, device: d };
+        return Restarted {
+            decline,
+            device: d,
+            reason: Reason::NotCompared,
+        };
     }
     tear(g, d, one, two, sram, mask);
-    let swap = compared(g, one, two);
+    let c = compared(g, one, two);
+    let reason = c.reason;
     Restarted {
         decline: Decline::Accepted,
-        device: reset_device(d, kind, swap),
+        device: reset_device(d, kind, c.second),
+        reason,
     }
 }

@@ -17,7 +17,8 @@ use Rattle.text.proofs.LineLaws.{length-four}
 use Rattle.words.specs.declared.decline.Decline.{Decline}
 use Rattle.geometry.specs.Banks.{listedOf, inRangeOf}
 use Rattle.words.specs.Decline.{acceptedOf}
-use Rattle.sequence.specs.Sequence.{complementOf, validOf, bfswapOf}
+use Rattle.sequence.specs.Sequence.{complementOf, validOf}
+use Rattle.sequence.specs.Comparison.{compareOf}
 use Rattle.device.specs.declared.record.Device.{Device}
 use Rattle.device.specs.Builders.{powerOn}
 use Rattle.common_declines.specs.CommonDecline.{commonDeclineOf}
@@ -34,7 +35,7 @@ use Rattle.script_play.proofs.PlayLaws.{lines-length}
 
 -- any power-on of the program's banks gives its device
 pub power-on-there : (d : Device) → resetDeviceOf d 0 (comparedOf smallest firstBank erasedBank) ≡ powerOn
-unfolding resetDeviceOf resetConOf bfswapOf validOf complementOf
+unfolding resetDeviceOf resetConOf compareOf validOf complementOf
 power-on-there d = refl
 
 -- ---- a play of the program

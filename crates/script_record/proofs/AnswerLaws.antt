@@ -25,7 +25,7 @@ use Rattle.common_declines.proofs.CommonDeclineLaws.{opens}
 use Rattle.device.specs.declared.answer.Answer.{Answer}
 use Rattle.register_access.specs.Store.{hasFormOf, storeDeclineOf, storeAcceptedOf, storeOf}
 use Rattle.flash.specs.Step.{stepDeclineOf, stepOf}
-use Rattle.resets.specs.Reset.{resetDeclineOf, resetOf}
+use Rattle.resets.specs.Reset.{resetDeclineOf, Explained, explainedOf, resetOf}
 use Rattle.device.specs.State.{State, state, After}
 use Rattle.controller.specs.Controller.{Sound}
 use Rattle.script_format.specs.declared.Record.{Record}
@@ -53,9 +53,9 @@ module _ (P : Decline → Type 0) (g : Geometry) (d : Device) (accepted : P Decl
 
   reset-answer : (one two sram : List ℕ) (kind : ℕ) (mask : List ℕ) → P (commonDeclineOf g d (length one ∷ length two ∷ []) (length sram))
       → P (pick (ltb 2 kind) Decline.ResetKind Decline.Accepted) → P (resetOf g (state d one two) sram kind mask .decline)
-  unfolding resetOf resetDeclineOf
+  unfolding explainedOf resetDeclineOf
   reset-answer one two sram kind mask common known =
-      pick-both (λ (a : After). P (a .decline)) (acceptedOf (resetDeclineOf g d (length one) (length two) (length sram) kind)) accepted
+      pick-both (λ (e : Explained). P (e .after .decline)) (acceptedOf (resetDeclineOf g d (length one) (length two) (length sram) kind)) accepted
       (pick-both P (acceptedOf (commonDeclineOf g d (length one ∷ length two ∷ []) (length sram))) known common)
 
 -- ---- one digit

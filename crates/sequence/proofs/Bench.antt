@@ -6,7 +6,7 @@ use borrow.Author.Tests.{le-ltb}
 use native.Mathlib.Nat.{le-refl}
 use Rattle.sequence.specs.Sequence.{complementOf, validOf, sequenceWordOf, nextSequenceOf, tseqOf}
 use Rattle.sequence.specs.Bench.{Bench}
-use Rattle.sequence.proofs.SequenceLaws.{both-valid, only-second}
+use Rattle.sequence.proofs.ComparisonLaws.{both-valid, only-second}
 
 pub bench : Bench
 unfolding complementOf validOf sequenceWordOf nextSequenceOf

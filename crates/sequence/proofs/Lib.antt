@@ -1,3 +1,4 @@
 pub mod SequenceLaws
+pub mod ComparisonLaws
 pub mod Bench
 pub mod Sum

@@ -1,11 +1,11 @@
--- The sequence word: the complement bit by bit and as a number, validity by bits, the new word is valid, the comparison's cases.
+-- The sequence word: the complement bit by bit and as a number, validity by bits, the new word is valid.
 -- Assumes nothing.
 use mathlib.Core.Path.{_≡_, refl, sym, ap, _∙_}
 use mathlib.Core.Bool.{Bool, true, false, not}
 use Prim.Native.Nat.{ℕ, _+_, _-_, _*_, _/_, _%_, _^_, _≤_, _<_}
 use native.Mathlib.Nat.{mod-eq-of-lt, mul-le-mul}
 use native.Mathlib.Omega.{arith}
-use lib.Dec.{eqb, ltb}
+use lib.Dec.{eqb}
 use lib.Arith.{digits-div, digits-mod, mul-pred}
 use lib.Bits.{xor-lt, xor-add-and, and-mask}
 use borrow.Author.Tests.{eq-eqb, eqb-true}
@@ -14,7 +14,7 @@ use Rattle.words.specs.Quad.{wordAt}
 use Rattle.words.proofs.BitLaws.{xor, bit-xor, ones-bit, bit-low, bit-high, equal-below}
 use Rattle.geometry.specs.declared.banks.Geometry.{Geometry}
 use Rattle.geometry.specs.Banks.{InRange, bootQuadsOf, pageQuadsOf, bankWordsOf}
-use Rattle.sequence.specs.Sequence.{sequenceQuadOf, tseqOf, cseqOf, complementOf, validOf, bfswapOf, sequenceWordOf, nextSequenceOf}
+use Rattle.sequence.specs.Sequence.{sequenceQuadOf, tseqOf, cseqOf, complementOf, validOf, sequenceWordOf, nextSequenceOf}
 
 -- ---- the complement of a half word
 pub complement-below : (h : ℕ) → h < 65536 → complementOf h < 65536
@@ -75,24 +75,6 @@ next-valid w = word-valid ((tseqOf w + 1) % 65536) (omega arith)
 pub next-tseq : (w : ℕ) → tseqOf (wordAt (nextSequenceOf w) 0) ≡ (tseqOf w + 1) % 65536
 unfolding nextSequenceOf
 next-tseq w = word-tseq ((tseqOf w + 1) % 65536) (omega arith)
-
--- ---- the comparison, case by case
-module _ (first second : ℕ) where
-  pub both-valid : validOf first ≡ true → validOf second ≡ true → bfswapOf first second ≡ ltb (tseqOf first) (tseqOf second)
-  unfolding bfswapOf
-  both-valid f s = rw (f, s)
-
-  pub only-first : validOf first ≡ true → validOf second ≡ false → bfswapOf first second ≡ false
-  unfolding bfswapOf
-  only-first f s = rw (f, s)
-
-  pub only-second : validOf first ≡ false → validOf second ≡ true → bfswapOf first second ≡ true
-  unfolding bfswapOf
-  only-second f s = rw (f, s)
-
-  pub none-valid : validOf first ≡ false → validOf second ≡ false → bfswapOf first second ≡ false
-  unfolding bfswapOf
-  none-valid f s = rw (f, s)
 
 -- ---- where the sequence quad stands: the last of the boot quads, in the last boot page
 module _ (g : Geometry) (ok : InRange g) where

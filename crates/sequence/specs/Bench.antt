@@ -3,7 +3,8 @@ use Prim.Native.Nat.{ℕ}
 use mathlib.Core.Path.{_≡_}
 use mathlib.Core.Bool.{true, false}
 use Rattle.words.specs.Quad.{wordAt}
-use Rattle.sequence.specs.Sequence.{tseqOf, validOf, bfswapOf, nextSequenceOf}
+use Rattle.sequence.specs.Sequence.{tseqOf, validOf, nextSequenceOf}
+use Rattle.sequence.specs.Comparison.{bfswapOf}
 
 pub record Bench : Type 0 where
   -- "0xFFFE0001 valid"

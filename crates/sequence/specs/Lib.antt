@@ -1,3 +1,5 @@
 pub mod Sequence
+pub mod Comparison
 pub mod Bench
 pub mod Sum
+pub mod Reasons

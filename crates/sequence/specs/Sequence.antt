@@ -1,10 +1,10 @@
 -- "Banks and map", the sequence word. Assumes nothing.
 use Prim.Native.Nat.{ℕ, _+_, _-_, _*_, _/_, _%_}
-use mathlib.Core.Bool.{Bool, true, false, _&&_}
+use mathlib.Core.Bool.{Bool}
 use mathlib.Core.List.{List, [], _∷_}
-use lib.Dec.{eqb, ltb}
+use lib.Dec.{eqb}
 use lib.Bits.{bitXor}
-use Rattle.words.specs.Word.{pick, allOnes}
+use Rattle.words.specs.Word.{allOnes}
 use Rattle.geometry.specs.declared.banks.Geometry.{Geometry}
 use Rattle.geometry.specs.Banks.{bootQuadsOf}
 
@@ -29,15 +29,6 @@ complementOf half = bitXor half 0xFFFF
 -- "It is valid when C is the bitwise complement of T (house)."
 unfoldable pub validOf : ℕ → Bool
 validOf w = eqb (cseqOf w) (complementOf (tseqOf w))
-
--- "both valid, higher T goes lower; equal T, bank 1; one valid, that one; none, bank 1": BFSWAP for the sequence words of
--- bank 1 and bank 2
-unfoldable pub bfswapOf : ℕ → ℕ → Bool
-bfswapOf first second =
-    pick (validOf first && validOf second) (ltb (tseqOf first) (tseqOf second))
-    (pick (validOf first) false
-    (pick (validOf second) true
-    false))
 
 -- T with its complement as C
 unfoldable pub sequenceWordOf : ℕ → ℕ

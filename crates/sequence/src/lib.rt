@@ -4,9 +4,11 @@ ghost use mathlib.Core.Path.{_≡_};
 ghost use Prim.Native.Nat.{_<_};
 ghost use Rattle.geometry.specs.Banks.{InRange};
 ghost use Rattle.sequence.specs.Sequence.{sequenceQuadOf, sequenceIndexOf, tseqOf, cseqOf, complementOf, validOf};
-ghost use Rattle.sequence.specs.Sequence.{bfswapOf, sequenceWordOf, nextSequenceOf};
+ghost use Rattle.sequence.specs.Sequence.{sequenceWordOf, nextSequenceOf};
 use geometry::banks::Geometry;
 use geometry::banks::boot_quads;
+
+pub mod comparison;
 
 // The index of the sequence quad, the last of the last boot page, in a bank.
 pub fn sequence_quad(g: Geometry) -> u32
@@ -45,19 +47,6 @@ pub fn is_valid(w: u32) -> bool
     let high = cseq(w);
     let low = tseq(w);
     high + low == 65535
-}
-
-// BFSWAP as a reset sets it by the sequence words of bank 1 and bank 2: whether bank 2 goes lower.
-pub fn bfswap(first: u32, second: u32) -> bool
-    ensures { λ r. ⌜ r ≡ bfswapOf first second ⌝ }
-{
-    if is_valid(first) {
-        if is_valid(second) {
-            return tseq(first) < tseq(second);
-        }
-        return false;
-    }
-    is_valid(second)
 }
 
 // The bitwise complement of a half word.

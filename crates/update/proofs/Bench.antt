@@ -4,7 +4,8 @@ use mathlib.Core.Path.{_≡_, refl}
 use Prim.Native.Nat.{ℕ}
 use Rattle.geometry.specs.Banks.{listedOf, inRangeOf}
 use Rattle.geometry.specs.Lent.{lengthsFitOf, lentDeclineOf}
-use Rattle.sequence.specs.Sequence.{complementOf, validOf, bfswapOf}
+use Rattle.sequence.specs.Sequence.{complementOf, validOf}
+use Rattle.sequence.specs.Comparison.{compareOf}
 use Rattle.device.specs.declared.record.Device.{Device}
 use Rattle.device.specs.Builders.{powerOn}
 use Rattle.device.specs.Record.{registerOf}
@@ -21,11 +22,11 @@ abbrev PowersOn : ℕ → ℕ → Type 0
 PowersOn first second = (d : Device) → resetDeviceOf d 0 (comparedOf smallest (benchBank first) (benchBank second)) ≡ powerOn
 
 pub bench-power-on : PowersOn 0x0001_FFFE 0xFFFF_FFFF × PowersOn 0x0000_FFFF 0xFFFF_FFFF × PowersOn 0xFFFE_0001 0x0000_0000 × PowersOn 0xFFFE_0001 0xFFFF_FFFF
-unfolding complementOf validOf bfswapOf resetConOf resetDeviceOf
+unfolding complementOf validOf compareOf resetConOf resetDeviceOf
 bench-power-on = (λ d. refl, λ d. refl, λ d. refl, λ d. refl)
 
 pub bench : Bench
-unfolding listedOf inRangeOf lengthsFitOf lentDeclineOf complementOf validOf bfswapOf registerOf implementedOf possibleOf commonDeclineOf totalOf
+unfolding listedOf inRangeOf lengthsFitOf lentDeclineOf complementOf validOf compareOf registerOf implementedOf possibleOf commonDeclineOf totalOf
     clashOf sequenceAllowsOf upperFreeOf startDeclineOf startOf
 bench =
     record {

@@ -23,3 +23,4 @@ pub mod PowerFail
 pub mod Example
 pub mod KeyLaws
 pub mod Probes
+pub mod Reasons

@@ -11,6 +11,7 @@ use lib.ListN.{length}
 use borrow.Author.Tests.{le-ltb}
 use Rattle.words.specs.Quad.{wordAt}
 use Rattle.words.specs.Decline.{acceptedOf}
+use Rattle.words.proofs.BitLaws.{true-not-false}
 use Rattle.geometry.specs.declared.banks.Geometry.{Geometry}
 use Rattle.geometry.specs.Banks.{inRangeOf}
 use Rattle.geometry.proofs.SizeLaws.{in-range}
@@ -20,7 +21,7 @@ use Rattle.device.specs.Record.{running, bfswap, pfswap}
 use Rattle.common_declines.specs.Possible.{possibleOf}
 use Rattle.common_declines.proofs.CommonDeclineLaws.{opens}
 use Rattle.start_up.specs.StartUp.{startUpOf}
-use Rattle.resets.specs.Reset.{resetDeclineOf, resetDeviceOf, resetOf}
+use Rattle.resets.specs.Reset.{resetDeclineOf, resetDeviceOf, resetAnswerOf}
 use Rattle.device.specs.State.{State, bankOf, After}
 use Rattle.controller.specs.Controller.{Operation, Sound}
 use Rattle.controller.proofs.Controller.{controller}
@@ -41,17 +42,24 @@ use Rattle.update.proofs.StartLaws.{startFixed, start-stands, start-pla
 
 -- ---- resets in any state
 -- one of the three kinds with a short SRAM is not declined
-reset-answers : (g : Geometry) (s : State) (c : Cut) → inRangeOf g ≡ true → Sound g s → length (c .sram) ≤ 16384 → c .kind ≤ 2
-    → acceptedOf (resetBy g s c .decline) ≡ true
-unfolding resetOf resetDeclineOf
-reset-answers g s c listed sound short kind =
+reset-accepted : (g : Geometry) (s : State) (c : Cut) → inRangeOf g ≡ true → Sound g s → length (c .sram) ≤ 16384 → c .kind ≤ 2
+    → acceptedOf (resetAnswerOf g s (c .sram) (c .kind)) ≡ true
+unfolding resetDeclineOf
+reset-accepted g s c listed sound short kind =
     rw (
       opens g (s .device) (length (s .one) ∷ length (s .two) ∷ []) (length (c .sram)) listed (sound .first, (sound .other, tt)) short (sound .possible),
       le-ltb 2 (c .kind) kind,
     )
 
+reset-answers : (g : Geometry) (s : State) (c : Cut) → inRangeOf g ≡ true → Sound g s → length (c .sram) ≤ 16384 → c .kind ≤ 2
+    → acceptedOf (resetBy g s c .decline) ≡ true
+reset-answers g s c listed sound short kind =
+    by-reset g s (c .sram) (c .kind) (c .mask) (λ (a : After). acceptedOf (a .decline) ≡ true)
+    (λ on. refl)
+    (λ off. true-not-false (sym (reset-accepted g s c listed sound short kind) ∙ off))
+
 -- while no operation runs it changes no bank
-reset-idle : (g : Geometry) (s : State) (c : Cut) → running (s .device) ≡ false → SameBanks s (resetBy g s c .state)
+pub reset-idle : (g : Geometry) (s : State) (c : Cut) → running (s .device) ≡ false → SameBanks s (resetBy g s c .state)
 reset-idle g s c off =
     by-reset g s (c .sram) (c .kind) (c .mask) (λ (a : After). SameBanks s (a .state)) (λ on. (rw off, rw off)) (λ declined. (refl, refl))
 
@@ -163,7 +171,7 @@ module _ (u : Fixed) where
           let accepted = reset-answers g (p .state) c listed (stands .sound) short kind in
           record { reset = accepted; start-up = starts-up (stands .device) can (c .kind) (resetBy g (p .state) c .state) (leaves accepted) }
 
-      kept-reset : bankOf (resetBy g (p .state) c .state) b ≡ old
+      pub kept-reset : bankOf (resetBy g (p .state) c .state) b ≡ old
       kept-reset = go (acceptedOf (resetBy g (p .state) c .decline)) refl
         where
           go : (t : Bool) → acceptedOf (resetBy g (p .state) c .decline) ≡ t → bankOf (resetBy g (p .state) c .state) b ≡ old

@@ -15,8 +15,10 @@ use Rattle.words.specs.Word.{pick, bit, mergeOf, allOnes}
 use Rattle.words.specs.Quad.{wordAt, mergeQuadOf, blankQuad}
 use Rattle.words.proofs.BitLaws.{true-not-false, bit-and, merge-bit, equal-below, equal-by-bits, bit-zero, ones-bit, bit-above, bit-low, bit-high}
 use Rattle.words.proofs.PickLaws.{pick-same, pick-both}
-use Rattle.sequence.specs.Sequence.{tseqOf, cseqOf, validOf, bfswapOf, nextSequenceOf}
-use Rattle.sequence.proofs.SequenceLaws.{valid-bits, word-below, next-valid, next-tseq, both-valid, only-first, only-second}
+use Rattle.sequence.specs.Sequence.{tseqOf, cseqOf, validOf, nextSequenceOf}
+use Rattle.sequence.specs.Comparison.{bfswapOf}
+use Rattle.sequence.proofs.SequenceLaws.{valid-bits, word-below, next-valid, next-tseq}
+use Rattle.sequence.proofs.ComparisonLaws.{both-valid, only-first, only-second}
 use Rattle.update.specs.Start.{clashOf}
 
 -- no bit falls

@@ -6,3 +6,4 @@ pub mod Bench
 pub mod Example
 pub mod Run
 pub mod Probes
+pub mod Reasons

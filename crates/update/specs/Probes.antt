@@ -64,7 +64,7 @@ pub record Probed (g : Geometry) (image : List ℕ) : Type 0 where
   -- when a read is met at key step 0 or 1: after a turn that did any action of the list but the second or third key store
   pub met-low : (p : Position) (sram : List ℕ) → acceptedOf (turnOf g (p .state) image sram (p .place) .decline) ≡ true → p .place < totalOf g
       → laterKeyOf (nextActionOf g (p .state) image (p .place)) ≡ false → turnedOf g image p sram .state .device .keystep ≤ 1
-  -- "none of these calls is declined": a read of a register that there is
+  -- a read of a register that there is is not declined
   pub read-answers : (s : State) → Update g s image → (B : ProbedRun g s image) (r : ℕ) → r ≤ NVMCON2
       → acceptedOf (answerOf g (afterRun g s image B .state) (registerRead r)) ≡ true
   -- PowerFail's fields about lists of turns, of lists with such reads

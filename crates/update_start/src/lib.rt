@@ -40,7 +40,8 @@ fn sequence_allows(g: Geometry, d: Device, one: &[u32], two: &[u32]) -> bool
         return false;
     }
     let bfswap = has(d.nvmcon.0, Nvmcon::BFSWAP);
-    if compared(g, one, two) != bfswap {
+    let c = compared(g, one, two);
+    if c.second != bfswap {
         return false;
     }
     if has(d.nvmcon.0, Nvmcon::PFSWAP) != bfswap {

@@ -4,8 +4,8 @@ use mathlib.Core.Bool.{Bool}
 use lib.Dec.{eqb}
 use Rattle.words.specs.Word.{pick}
 use Rattle.words.specs.declared.decline.Decline.{Decline}
-use Rattle.words.specs.declared.decline.Decline.the-variants.{Accepted, Geometry, Length, Device, Register, Running, Idle, ResetKind, Address, Busy, Sequence}
-use Rattle.words.specs.declared.decline.Decline.the-variants.{LastSequence, Protection, Place, Script, Hours, NoWait, SheetBuffer, Lanes}
+use Rattle.words.specs.declared.decline.Decline.the-variants.{Accepted, Geometry, Length, Device, Register, Running, Idle, ResetKind, Address}
+use Rattle.words.specs.declared.decline.Decline.the-variants.{Busy, Sequence, LastSequence, Protection, Place, Script, Hours, NoWait, SheetBuffer, Lanes}
 
 abbrev pub numberOf : Decline → ℕ
 numberOf Accepted = 0

@@ -12,7 +12,10 @@ use Rattle.device.specs.declared.answer.Answer.{Answer}
 use Rattle.register_access.specs.declared.RegisterRead.{RegisterRead}
 use Rattle.start_up.specs.declared.StartedUp.{StartedUp}
 use denote.Ref.{RefT}
+use Rattle.sequence.specs.declared.comparison.Comparison.{Comparison}
+use Rattle.sequence.specs.Comparison.{reasonNumberOf}
 use Rattle.device.specs.State.{After, lent}
+use Rattle.resets.specs.Reset.{Explained}
 use Rattle.reads.specs.declared.FlashRead.{FlashRead}
 use Rattle.bank_parts.specs.Parts.{lowerBankDeclineOf, lowerOf, lowerBankOf, pageDeclineOf}
 use Rattle.script_play.specs.declared.PlayLength.{PlayLength}
@@ -22,6 +25,8 @@ use Rattle.planner.specs.declared.plan.Planned.{Planned}
 use Rattle.sheet.specs.Sheet.{Given}
 use Rattle.yohrundel.specs.declared.answers.EventAnswer.{EventAnswer}
 use Rattle.yohrundel.specs.declared.answers.DeviceAnswer.{DeviceAnswer}
+use Rattle.yohrundel.specs.declared.answers.ResetAnswer.{ResetAnswer}
+use Rattle.yohrundel.specs.declared.answers.CompareAnswer.{CompareAnswer}
 use Rattle.yohrundel.specs.declared.answers.RegisterReadAnswer.{RegisterReadAnswer}
 use Rattle.yohrundel.specs.declared.answers.FlashReadAnswer.{FlashReadAnswer}
 use Rattle.yohrundel.specs.declared.answers.LowerBankAnswer.{LowerBankAnswer}
@@ -55,6 +60,10 @@ playLengthAnswerOf a = record { decline = numberOf (a .decline); bytes = a .byte
 abbrev pub planAnswerOf : Planned → PlanAnswer
 planAnswerOf a = record { decline = numberOf (a .decline); wait = a .wait }
 
+-- the bank by its number, 1 or 2, and the reason by its own
+abbrev pub compareAnswerOf : Comparison → CompareAnswer
+compareAnswerOf c = record { bank = pick (c .second) 2 1; reason = reasonNumberOf (c .reason) }
+
 -- the lower-alias bank by its number, 1 or 2, and its length; 0 and 0 where it is declined (ours)
 unfoldable pub lowerBankAnswerOf : Geometry → Device → List ℕ → List ℕ → LowerBankAnswer
 lowerBankAnswerOf g d one two =
@@ -79,8 +88,10 @@ abbrev pub StepGives : After → EventAnswer → RefT (List ℕ) → RefT (List 
 StepGives a r one two =
     (r ≡ record { decline = numberOf (a .decline); event = a .event; device = a .state .device }) × (lent (r .device) one two ≡ a .state)
 
-abbrev pub ResetGives : After → DeviceAnswer → RefT (List ℕ) → RefT (List ℕ) → Type 0
-ResetGives a r one two = (r ≡ record { decline = numberOf (a .decline); device = a .state .device }) × (lent (r .device) one two ≡ a .state)
+abbrev pub ResetGives : Explained → ResetAnswer → RefT (List ℕ) → RefT (List ℕ) → Type 0
+ResetGives e r one two =
+    (r ≡ record { decline = numberOf (e .after .decline); reason = reasonNumberOf (e .reason); device = e .after .state .device })
+    × (lent (r .device) one two ≡ e .after .state)
 
 abbrev pub PlayGives : Playback → PlayAnswer → List ℕ → List ℕ → List ℕ → Type 0
 PlayGives a r one two buffer =

@@ -9,11 +9,26 @@ pub struct EventAnswer {
     pub device: Device,
 }
 
-// The answer to a reset and to a start-up.
+// The answer to a start-up.
 #[repr(C)]
 pub struct DeviceAnswer {
     pub decline: u32,
     pub device: Device,
+}
+
+// The answer to a reset; the reason of its comparison by number, 4 where it is declined.
+#[repr(C)]
+pub struct ResetAnswer {
+    pub decline: u32,
+    pub reason: u32,
+    pub device: Device,
+}
+
+// The bank that the comparison puts lower, 1 or 2, and why, by number.
+#[repr(C)]
+pub struct CompareAnswer {
+    pub bank: u32,
+    pub reason: u32,
 }
 
 #[repr(C)]

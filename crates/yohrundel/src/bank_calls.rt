@@ -3,16 +3,16 @@ ghost use mathlib.Core.Path.{_≡_};
 ghost use lib.ListN.{length, take, drop};
 ghost use Rattle.device.specs.State.{lent};
 ghost use Rattle.flash.specs.Step.{stepOf};
-ghost use Rattle.resets.specs.Reset.{resetOf};
+ghost use Rattle.resets.specs.Reset.{explainedOf};
 ghost use Rattle.reads.specs.Read.{flashReadOf};
 ghost use Rattle.bank_parts.specs.Parts.{pagePartOf};
 ghost use Rattle.yohrundel.specs.Answers.{flashReadAnswerOf, lowerBankAnswerOf, pageAnswerOf, StepGives, ResetGives};
-use crate::answers::DeviceAnswer;
 use crate::answers::EventAnswer;
 use crate::answers::FlashReadAnswer;
 use crate::answers::LowerBankAnswer;
 use crate::answers::Mask;
 use crate::answers::PageAnswer;
+use crate::answers::ResetAnswer;
 use bank_parts::lower_bank_decline;
 use bank_parts::page_decline;
 use device::record::Device;
@@ -125,15 +125,17 @@ pub extern "C" fn yohrundel_reset(
     sram: &[u32],
     kind: u32,
     mask: Mask,
-) -> DeviceAnswer
-    ensures { λ r. ⌜ ResetGives (resetOf g (lent d (one .entry) (two .entry)) (now (sram .entry)) kind (mask .words)) r (one .exit) (two .exit) ⌝ }
+) -> ResetAnswer
+    ensures { λ r. ⌜ ResetGives (explainedOf g (lent d (one .entry) (two .entry)) (now (sram .entry)) kind (mask .words)) r (one .exit) (two .exit) ⌝ }
 {
     let words = mask.words;
     let a = reset(g, d, one, two, sram, kind, words);
     let decline = a.decline;
+    let reason = a.reason;
     let device = a.device;
-    DeviceAnswer {
+    ResetAnswer {
         decline: decline.number(),
+        reason: reason.number(),
         device,
     }
 }

@@ -1,11 +1,13 @@
-// The exported calls of the later requests: garage hours, page sheet, byte lanes.
+// The exported calls of the later requests: the comparison, garage hours, page sheet, byte lanes.
 ghost use mathlib.Core.Path.{_≡_};
 ghost use lib.ListN.{length};
 ghost use Rattle.words.specs.Decline.{numberOf};
 ghost use Rattle.planner.specs.Planner.{planOf};
 ghost use Rattle.sheet.specs.Sheet.{pageSheetOf};
 ghost use Rattle.lanes.specs.Lanes.{lanesOutOf, lanesBackOf, lanesDeclineOf, targetOf};
-ghost use Rattle.yohrundel.specs.Answers.{planAnswerOf, PageSheetGives};
+ghost use Rattle.sequence.specs.Comparison.{compareOf};
+ghost use Rattle.yohrundel.specs.Answers.{compareAnswerOf, planAnswerOf, PageSheetGives};
+use crate::answers::CompareAnswer;
 use crate::answers::PageSheetAnswer;
 use crate::answers::PlanAnswer;
 use device::record::Device;
@@ -13,7 +15,27 @@ use geometry::banks::Geometry;
 use lanes::lanes_back;
 use lanes::lanes_out;
 use planner::plan::plan;
+use sequence::comparison::compare;
 use sheet::page_sheet;
+
+// The bank that a reset would put lower by two sequence words, and why.
+#[no_mangle]
+pub extern "C" fn yohrundel_compare(first: u32, other: u32) -> CompareAnswer
+    ensures { λ r. ⌜ r ≡ compareAnswerOf (compareOf first other) ⌝ }
+{
+    let c = compare(first, other);
+    let reason = c.reason;
+    if c.second {
+        return CompareAnswer {
+            bank: 2,
+            reason: reason.number(),
+        };
+    }
+    CompareAnswer {
+        bank: 1,
+        reason: reason.number(),
+    }
+}
 
 // The least wait until a garage's hours hold a whole update. The slice counts numbers, two for each window: what counts windows stands
 // over it, in include/yohrundel.h and in the wrapper.

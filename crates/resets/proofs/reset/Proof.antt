@@ -8,13 +8,13 @@ use lib.ListN.{length}
 use Rattle.words.specs.Decline.{acceptedOf}
 use Rattle.words.proofs.DeclineLaws.{went-on}
 use Rattle.device.specs.State.{State}
-use Rattle.resets.specs.Reset.{resetDeclineOf, resetOf}
+use Rattle.resets.specs.Reset.{resetDeclineOf, explainedOf}
 use Rattle.resets.proofs.AcceptedLaws.{reset-ready}
 use Rattle.resets.proofs.reset.Statement.{statement}
 use Rattle.resets.proofs.reset.Tie as tie
 
 declined : tie.Need-returns
-unfolding resetOf
+unfolding explainedOf
 declined c = rw (← c .before .before .reset-decline .ensures, sym (c .before .is-accepted .ensures) ∙ not-true _ (c .if1 .taken))
 
 -- the entry, from after the test
@@ -38,7 +38,7 @@ as-long c κs =
     (r .lent .range, (omega (arith, r .lent .banks .0), omega (arith, r .lent .banks .1 .0)))
 
 carried : tie.Need-returns-2
-unfolding resetOf
+unfolding explainedOf
 carried c =
     let torn = c .before .before .before .before .before .before .before .before in
     rw (

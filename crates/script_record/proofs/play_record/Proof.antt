@@ -1,6 +1,8 @@
 -- The kind chooses the call.
 use borrow.Author.Needs.{needs}
 use borrow.Author.Tests.{eq-eqb, ne-eqb}
+use mathlib.Core.Path.{ap}
+use Rattle.resets.specs.Reset.{Explained}
 use Rattle.script_record.specs.Record.{recordAfterOf}
 use Rattle.script_record.proofs.play_record.Statement.{statement}
 use Rattle.script_record.proofs.play_record.Tie as tie
@@ -21,7 +23,8 @@ unfolding recordAfterOf
 a-reset c =
     let restarted = c .before .before .before .before .before in
     let kind = restarted .before .before .before in
-    rw (ne-eqb _ _ (kind .before .before .if1 .left), ne-eqb _ _ (kind .if2 .left)) (restarted .reset .ensures)
+    rw (ne-eqb _ _ (kind .before .before .if1 .left), ne-eqb _ _ (kind .if2 .left))
+    (ap (λ (e : Explained). e .after) (restarted .reset .ensures))
 
 pub play-record-spec : {M : Type 1} → statement M
 play-record-spec =

@@ -1,8 +1,9 @@
 -- The first clause that fails decides.
 use mathlib.Core.Bool.{true}
-use mathlib.Core.Path.{_≡_, sym, _∙_}
+use mathlib.Core.Path.{_≡_, sym, ap, _∙_}
 use borrow.Author.Tests.{not-true, not-false}
 use borrow.Author.Needs.{needs}
+use Rattle.sequence.specs.declared.comparison.Comparison.{Comparison}
 use Rattle.device.specs.State.{lent}
 use Rattle.update.specs.Start.{lowerValidOf, resetKeepsOf, swapsAgreeOf, sequenceAllowsOf}
 use Rattle.update_start.proofs.TestLaws.{differ, agree}
@@ -15,7 +16,7 @@ abbrev entry : tie.Else1 → tie.Start
 entry c = c .before .before .before .before .before
 
 abbrev entry-kept : tie.Else2 → tie.Start
-entry-kept c = entry (c .before .before .before)
+entry-kept c = entry (c .before .before .before .before)
 
 abbrev entry-agreed : tie.Else3 → tie.Start
 entry-agreed c = entry-kept (c .before .before)
@@ -27,12 +28,14 @@ valid c = rw (← c .before .before .lower-word .ensures) (sym (c .before .is-va
 
 keeps : (c : tie.Else2) → let a = entry-kept c .args in resetKeepsOf (a .g) (lent (a .d) (a .one) (a .two)) ≡ true
 keeps c =
-    let has = c .before .before in
-    rw (← c .before .compared .ensures, ← has .has .ensures) (agree (c .before .compared .result) (has .has .result) (c .if2 .left))
+    let compared = c .before .before in
+    let has = compared .before in
+    let bank = ap (λ (x : Comparison). x .second) (compared .compared .ensures) in
+    rw (← bank, ← has .has .ensures) (agree (compared .compared .result .second) (has .has .result) (c .if2 .left))
 
 swaps : (c : tie.Else3) → let a = entry-agreed c .args in swapsAgreeOf (lent (a .d) (a .one) (a .two)) ≡ true
 swaps c =
-    let has = c .before .before .before .before in
+    let has = c .before .before .before .before .before in
     rw (← c .before .has2 .ensures, ← has .has .ensures) (agree (c .before .has2 .result) (has .has .result) (c .if3 .left))
 
 -- ---- what each call asks for, and what each return gives
@@ -50,14 +53,16 @@ lengths c κs = let start = entry (c .before) in (start .pre .0, start .pre .1)
 chosen : tie.Need-returns-2
 unfolding sequenceAllowsOf
 chosen c =
-    let has = c .before .before in
-    rw (valid (has .before), ← c .before .compared .ensures, ← has .has .ensures, differ _ _ (c .if2 .taken))
+    let compared = c .before .before in
+    let has = compared .before in
+    let bank = ap (λ (x : Comparison). x .second) (compared .compared .ensures) in
+    rw (valid (has .before), ← bank, ← has .has .ensures, differ _ _ (c .if2 .taken))
 
 swapped : tie.Need-returns-3
 unfolding sequenceAllowsOf
 swapped c =
     let kept = c .before .before in
-    let has = kept .before .before in
+    let has = kept .before .before .before in
     rw (valid (has .before), keeps kept, ← c .before .has2 .ensures, ← has .has .ensures, differ _ _ (c .if3 .taken))
 
 exchanged : tie.Need-lower-word-requires-2
@@ -70,7 +75,7 @@ other-valid c =
     let agreed = word .before in
     let kept = agreed .before .before in
     rw (
-      valid (kept .before .before .before),
+      valid (kept .before .before .before .before),
       keeps kept,
       swaps agreed,
       ← word .lower-word2 .ensures,
@@ -85,7 +90,7 @@ clash c =
     let agreed = word .before in
     let kept = agreed .before .before in
     rw (
-      valid (kept .before .before .before),
+      valid (kept .before .before .before .before),
       keeps kept,
       swaps agreed,
       ← word .lower-word2 .ensures,
