@@ -94,6 +94,18 @@ static void step_call(yohrundel_device d)
     printf("\n");
 }
 
+/* The bank that goes lower, and why; a declined reset has compared nothing. */
+static void compare_calls(void)
+{
+    const yohrundel_compare_answer compared = yohrundel_compare(0xFFFE0001, 0xFFFFFFFF);
+    printf("compare_reason %" PRIu32 " %" PRIu32 "\n", compared.bank, compared.reason);
+
+    const yohrundel_mask none = {{0, 0, 0, 0}};
+    const yohrundel_reset_answer refused =
+        yohrundel_reset(GEOMETRY, yohrundel_power_on(), one, WORDS, two, WORDS, NULL, 0, 3, none);
+    expect(refused.decline == YOHRUNDEL_DECLINE_RESET_KIND && refused.reason == YOHRUNDEL_REASON_NOT_COMPARED, "a declined reset");
+}
+
 /* A window on Tuesday, and one from Sunday on past the end of the week, which is over at minute 240. */
 static void plan_call(void)
 {
@@ -154,6 +166,7 @@ int main(void)
     reading_calls(d);
     step_call(d);
     plan_call();
+    compare_calls();
     lanes_calls();
     sheet_call(d);
     script_calls(d);

@@ -65,7 +65,7 @@ static void print_sign(const char *stage, const sign *s)
 
 static void reset(sign *s, uint32_t kind, yohrundel_mask mask)
 {
-    const yohrundel_device_answer a =
+    const yohrundel_reset_answer a =
         yohrundel_reset(GEOMETRY, s->device, s->one, WORDS, s->two, WORDS, NULL, 0, kind, mask);
     accepted(a.decline, "reset");
     s->device = a.device;

@@ -144,6 +144,20 @@ enum yohrundel_reset_kind {
     YOHRUNDEL_OTHER_RESET = 2
 };
 
+/* Why a reset put a bank on the lower alias. A sequence word is valid where its halves add up to 65,535; its low half is its number. */
+enum yohrundel_reason {
+    /* Both banks have a valid sequence word, and the bank with the higher number goes lower. */
+    YOHRUNDEL_REASON_HIGHER = 0,
+    /* Both have one with the same number, and bank 1 goes lower. */
+    YOHRUNDEL_REASON_EQUAL = 1,
+    /* Only the bank that goes lower has a valid one. */
+    YOHRUNDEL_REASON_ONLY_ONE_VALID = 2,
+    /* No bank has a valid one, and bank 1 goes lower all the same. */
+    YOHRUNDEL_REASON_NONE_VALID = 3,
+    /* Nothing was compared: the reset was declined. */
+    YOHRUNDEL_REASON_NOT_COMPARED = 4
+};
+
 /* Bits of NVMCON. An operation runs while WR is 1. */
 #define YOHRUNDEL_WR 0x8000u
 #define YOHRUNDEL_WREN 0x4000u
@@ -200,11 +214,27 @@ typedef struct yohrundel_event_answer {
     yohrundel_device device;
 } yohrundel_event_answer;
 
-/* The answer to a reset and to a start-up. */
+/* The answer to a start-up. */
 typedef struct yohrundel_device_answer {
     uint32_t decline;
     yohrundel_device device;
 } yohrundel_device_answer;
+
+/* The answer to a reset. */
+typedef struct yohrundel_reset_answer {
+    uint32_t decline;
+    /* A number of enum yohrundel_reason: why BFSWAP is as it is now. */
+    uint32_t reason;
+    yohrundel_device device;
+} yohrundel_reset_answer;
+
+/* The answer to a comparison, which is never declined. */
+typedef struct yohrundel_compare_answer {
+    /* The bank that goes lower, 1 or 2. */
+    uint32_t bank;
+    /* A number of enum yohrundel_reason. */
+    uint32_t reason;
+} yohrundel_compare_answer;
 
 /* The answer to a register read. */
 typedef struct yohrundel_register_read_answer {
@@ -327,6 +357,12 @@ yohrundel_register_read_answer yohrundel_register_read(yohrundel_geometry g, yoh
 yohrundel_device_answer yohrundel_start_up(yohrundel_geometry g, yohrundel_device d);
 
 /*
+ * The bank that a reset would put lower by the sequence words of bank 1 and bank 2, and why. What runs is what the last reset chose: after a
+ * finished update and before its reset this names the other bank.
+ */
+yohrundel_compare_answer yohrundel_compare(uint32_t first, uint32_t other);
+
+/*
  * ---- calls on a device and its banks
  *
  * Bank 1 is one with one_words words, bank 2 is two with two_words words.
@@ -357,9 +393,10 @@ yohrundel_event_answer yohrundel_step(
 
 /*
  * A reset. While an operation runs it first tears the quad of the next step: where a bit of the mask is 1 the quad gets the intended bit,
- * where it is 0 it keeps the old one. Then BFSWAP is set by comparing the sequence words. Declines 1, 2, 3 and 7.
+ * where it is 0 it keeps the old one. Then BFSWAP is set by comparing the sequence words, and the answer has the reason. Declines 1, 2, 3
+ * and 7.
  */
-yohrundel_device_answer yohrundel_reset(
+yohrundel_reset_answer yohrundel_reset(
     yohrundel_geometry g, yohrundel_device d,
     uint32_t *one, size_t one_words,
     uint32_t *two, size_t two_words,

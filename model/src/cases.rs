@@ -101,7 +101,11 @@ impl Case {
     /// What stands right of the bar; none where the call takes no such inputs.
     pub fn answer(&self) -> Option<String> {
         let numbers = match self.call {
-            Call::Compare => vec![compare(self.numbers[0], self.numbers[1]).number()],
+            Call::Compare => vec![compare(self.numbers[0], self.numbers[1]).bank.number()],
+            Call::CompareReason => {
+                let compared = compare(self.numbers[0], self.numbers[1]);
+                vec![compared.bank.number(), compared.reason.number()]
+            }
             Call::Possible => {
                 let geometry = Geometry::new(self.geometry).ok()?;
                 vec![u32::from(possible(&geometry, &self.device))]
@@ -192,7 +196,7 @@ impl Case {
             Call::Reset => {
                 let mask = [numbers[1], numbers[2], numbers[3], numbers[4]];
                 let after = reset(geometry, device, banks, &third, numbers[0], mask)?;
-                Ok(device_outputs(&after, &[]))
+                Ok(device_outputs(&after.device, &[after.reason.number()]))
             }
             Call::UpdateStart => {
                 let (place, total) = update_start(geometry, &device, banks, &third)?;

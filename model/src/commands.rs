@@ -225,7 +225,9 @@ fn update(numbers: [u32; 3]) -> io::Result<bool> {
         }
     }
     let seconds = begin.elapsed().as_secs_f64();
-    let device = reset(numbers, device, &mut banks, &[], 0, [0; 4]).map_err(refused)?;
+    let device = reset(numbers, device, &mut banks, &[], 0, [0; 4])
+        .map_err(refused)?
+        .device;
     let device = start_up(numbers, device).map_err(refused)?;
     let mut new = image;
     let index = geometry.sequence_index();

@@ -57,7 +57,7 @@ impl State {
     fn restart(&mut self, numbers: [u32; 3], kind: u32, mask: [u32; 4]) -> u32 {
         let device = self.device;
         let after = reset(numbers, device, &mut self.banks(), &[], kind, mask);
-        match after.and_then(|device| start_up(numbers, device)) {
+        match after.and_then(|after| start_up(numbers, after.device)) {
             Ok(device) => self.device = device,
             Err(_) => return 0,
         }

@@ -3,7 +3,7 @@
 use crate::device::*;
 use crate::geometry::{check_sram, Bank, Banks, Geometry, Kind, ALL_ONES};
 use crate::operation::{judge, next_quad, targets, Judgement};
-use crate::sequence::compare;
+use crate::sequence::{compare, Comparison, Reason};
 use crate::{Answer, Refusal};
 
 /// What the next step of a running operation does.
@@ -111,6 +111,13 @@ pub fn apply_step(
     (after, false)
 }
 
+/// What a reset leaves, and why it put a bank lower.
+#[derive(Clone, Copy, Debug, PartialEq, Eq)]
+pub struct Restart {
+    pub device: Device,
+    pub reason: Reason,
+}
+
 /// A reset; kinds 0 power-on, 1 brown-out, 2 other.
 pub fn reset(
     numbers: [u32; 3],
@@ -119,7 +126,7 @@ pub fn reset(
     sram: &[u32],
     kind: u32,
     mask: [u32; 4],
-) -> Answer<Device> {
+) -> Answer<Restart> {
     let geometry = Geometry::new(numbers)?;
     banks.check(&geometry)?;
     check_sram(sram)?;
@@ -137,10 +144,14 @@ pub fn reset(
     };
     // "BFSWAP is compared after the tear"
     after.clear_con(BFSWAP);
-    if reset_choice(&geometry, banks) == Bank::Two {
+    let compared = reset_choice(&geometry, banks);
+    if compared.bank == Bank::Two {
         after.set_con(BFSWAP);
     }
-    Ok(after)
+    Ok(Restart {
+        device: after,
+        reason: compared.reason,
+    })
 }
 
 /// "choose, bit by bit, intended (1) or old (0)".
@@ -171,8 +182,8 @@ fn reset_without_power(device: Device, kind: u32) -> Device {
     after
 }
 
-/// The bank that a reset would put on the lower alias now.
-pub fn reset_choice(geometry: &Geometry, banks: &Banks) -> Bank {
+/// The bank that a reset would put on the lower alias now, and why.
+pub fn reset_choice(geometry: &Geometry, banks: &Banks) -> Comparison {
     let index = geometry.sequence_index();
     compare(banks.one[index], banks.two[index])
 }

@@ -124,7 +124,7 @@ pub fn play_record(device: Device, banks: &mut Banks, record: &Record) -> Answer
         Record::Step => step(PLAY_NUMBERS, device, banks, &[]),
         Record::Reset { kind } => {
             let after = reset(PLAY_NUMBERS, device, banks, &[], kind.into(), [0; 4])?;
-            Ok((after, false))
+            Ok((after.device, false))
         }
     }
 }

@@ -17,16 +17,39 @@ pub fn valid(word: u32) -> bool {
     high_half(word) == !low_half(word)
 }
 
-/// The bank that a reset puts on the lower alias.
-pub fn compare(word_one: u32, word_two: u32) -> Bank {
-    match (valid(word_one), valid(word_two)) {
-        // "higher T goes lower; equal T, bank 1"
-        (true, true) if low_half(word_two) > low_half(word_one) => Bank::Two,
-        (true, true) => Bank::One,
-        (true, false) => Bank::One,
-        (false, true) => Bank::Two,
-        (false, false) => Bank::One,
+/// W-205: "higher, equal, only one valid, none valid".
+#[derive(Clone, Copy, Debug, PartialEq, Eq)]
+pub enum Reason {
+    Higher = 0,
+    Equal = 1,
+    OnlyOneValid = 2,
+    NoneValid = 3,
+}
+
+impl Reason {
+    pub fn number(self) -> u32 {
+        self as u32
     }
+}
+
+/// The bank that a reset puts on the lower alias, and why.
+#[derive(Clone, Copy, Debug, PartialEq, Eq)]
+pub struct Comparison {
+    pub bank: Bank,
+    pub reason: Reason,
+}
+
+pub fn compare(word_one: u32, word_two: u32) -> Comparison {
+    let (bank, reason) = match (valid(word_one), valid(word_two)) {
+        // "higher T goes lower; equal T, bank 1"
+        (true, true) if low_half(word_two) > low_half(word_one) => (Bank::Two, Reason::Higher),
+        (true, true) if low_half(word_two) < low_half(word_one) => (Bank::One, Reason::Higher),
+        (true, true) => (Bank::One, Reason::Equal),
+        (true, false) => (Bank::One, Reason::OnlyOneValid),
+        (false, true) => (Bank::Two, Reason::OnlyOneValid),
+        (false, false) => (Bank::One, Reason::NoneValid),
+    };
+    Comparison { bank, reason }
 }
 
 /// The valid sequence word of a T.

@@ -192,7 +192,7 @@ fn check_sequences(geometry: &Geometry, device: &Device, banks: &Banks) -> Answe
     let swaps_differ = device.con(PFSWAP) != device.con(BFSWAP);
     // "a torn erase could make it valid"
     let doubtful = !valid(other) && halves_disjoint(other);
-    if !valid(own) || reset_choice(geometry, banks) != lower || swaps_differ || doubtful {
+    if !valid(own) || reset_choice(geometry, banks).bank != lower || swaps_differ || doubtful {
         return Err(Refusal::Sequence);
     }
     Ok(())

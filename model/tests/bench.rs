@@ -5,7 +5,7 @@ use model::generate::{old_bank_one, random_image};
 use model::geometry::{Bank, Banks, Geometry, Kind, Side, ALL_ONES};
 use model::operation::rounded_address;
 use model::script::{play, Record};
-use model::sequence::{compare, low_half, new_quad, valid, word_of};
+use model::sequence::{compare, low_half, new_quad, valid, word_of, Comparison, Reason};
 use model::update::{total, update_start};
 use model::{Answer, Refusal};
 
@@ -24,12 +24,16 @@ fn sequence_words() {
 
 #[test]
 fn comparison() {
-    assert_eq!(compare(0xFFFE_0001, 0xFFFE_0001), Bank::One);
-    assert_eq!(compare(0xFFFF_FFFF, 0xFFFE_0001), Bank::Two);
-    assert_eq!(compare(0xFFFE_0001, 0xFFFD_0002), Bank::Two);
-    assert_eq!(compare(0xFFFD_0002, 0xFFFE_0001), Bank::One);
-    assert_eq!(compare(0xFFFE_0001, 0xFFFF_FFFF), Bank::One);
-    assert_eq!(compare(0, 0xFFFF_FFFF), Bank::One);
+    for (first, other, bank, reason) in [
+        (0xFFFE_0001, 0xFFFE_0001, Bank::One, Reason::Equal),
+        (0xFFFF_FFFF, 0xFFFE_0001, Bank::Two, Reason::OnlyOneValid),
+        (0xFFFE_0001, 0xFFFD_0002, Bank::Two, Reason::Higher),
+        (0xFFFD_0002, 0xFFFE_0001, Bank::One, Reason::Higher),
+        (0xFFFE_0001, 0xFFFF_FFFF, Bank::One, Reason::OnlyOneValid),
+        (0, 0xFFFF_FFFF, Bank::One, Reason::NoneValid),
+    ] {
+        assert_eq!(compare(first, other), Comparison { bank, reason });
+    }
 }
 
 #[test]

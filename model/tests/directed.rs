@@ -36,9 +36,12 @@ fn outcome(case: &Case) -> String {
         let changed = numbers[3 * case.numbers[0] as usize + DEVICE];
         return String::from(if changed > 0 { "written" } else { "untouched" });
     }
+    if case.call == Call::CompareReason {
+        return format!("{}/{}", numbers[0], numbers[1]);
+    }
     let named = matches!(
         case.call,
-        Call::Compare | Call::Possible | Call::Protected | Call::ValidBySum
+        Call::Compare | Call::CompareReason | Call::Possible | Call::Protected | Call::ValidBySum
     );
     if named || numbers[0] != 0 {
         return numbers[0].to_string();
@@ -49,7 +52,7 @@ fn outcome(case: &Case) -> String {
         Call::Step if numbers[AFTER_DEVICE + 1] > 0 => "written",
         Call::Step if numbers[AFTER_DEVICE] == 1 && numbers[CON] & WRERR != 0 => "aborted",
         Call::Step => "counted",
-        Call::Reset if numbers[AFTER_DEVICE] > 0 => "torn",
+        Call::Reset if numbers[AFTER_DEVICE + 1] > 0 => "torn",
         Call::Reset => "untouched",
         Call::Turn if numbers[1] == 1 => "done",
         Call::Turn if numbers[TURN_EVENT + 1] > 0 => "written",
@@ -72,46 +75,50 @@ fn outcomes() -> BTreeMap<(&'static str, &'static str), BTreeSet<String>> {
     outcomes
 }
 
+/// The outcomes of each subject's cases of a call.
+const EXPECTED: &[(&str, &str, &str)] = &[
+    ("rows", "step", "written aborted counted 2"),
+    ("rows", "reset", "torn untouched 2"),
+    ("reads", "flash_read", "accepted 8 9"),
+    ("reads", "lower_bank", "accepted"),
+    ("launches", "store", "launched failed accepted"),
+    ("steps", "step", "written aborted counted"),
+    ("swaps", "store", "accepted"),
+    ("keys", "store", "accepted 4"),
+    ("keys", "register_read", "accepted"),
+    ("fields", "store", "launched accepted"),
+    ("resets", "reset", "torn untouched 7"),
+    ("tears", "reset", "torn untouched"),
+    ("start_ups", "startup", "accepted 5"),
+    ("orders", "store", "accepted 1 3 4 5"),
+    ("orders", "register_read", "accepted 1 3 4"),
+    ("orders", "flash_read", "accepted 1 2 3 8 9"),
+    ("orders", "lower_bank", "1 2 3"),
+    ("orders", "page", "accepted 1 2 8"),
+    ("orders", "step", "counted 1 2 3 6"),
+    ("orders", "reset", "untouched 1 2 3 7"),
+    ("orders", "startup", "accepted 1 3 5"),
+    ("orders", "update_start", "accepted 1 2 3 5 10 11 12"),
+    ("orders", "turn", "accepted 1 2 3 5 6 13"),
+    ("impossible", "possible", "0 1"),
+    ("pages", "page", "accepted 2 8"),
+    ("protection", "protected", "0 1"),
+    ("updates", "update_start", "accepted 2 5 10 11 12"),
+    ("updates", "turn", "accepted written event done 2 5 6 13"),
+    ("plans", "plan", "accepted 15 16"),
+    ("sheets", "page_sheet", "accepted 1 2 3 18"),
+    ("lanes", "lanes_out", "accepted 22"),
+    ("lanes", "lanes_back", "accepted 22"),
+    ("sums", "valid_by_sum", "0 1"),
+    ("probes", "register_read", "accepted 4"),
+    ("probes", "walk", "written untouched"),
+    ("reasons", "compare_reason", "1/0 1/1 1/2 1/3 2/0 2/2"),
+];
+
 #[test]
 fn both_sides_of_each_subject_occur() {
     let outcomes = outcomes();
-    for (subject, call, expected) in [
-        ("rows", "step", "written aborted counted 2"),
-        ("rows", "reset", "torn untouched 2"),
-        ("reads", "flash_read", "accepted 8 9"),
-        ("reads", "lower_bank", "accepted"),
-        ("launches", "store", "launched failed accepted"),
-        ("steps", "step", "written aborted counted"),
-        ("swaps", "store", "accepted"),
-        ("keys", "store", "accepted 4"),
-        ("keys", "register_read", "accepted"),
-        ("fields", "store", "launched accepted"),
-        ("resets", "reset", "torn untouched 7"),
-        ("tears", "reset", "torn untouched"),
-        ("start_ups", "startup", "accepted 5"),
-        ("orders", "store", "accepted 1 3 4 5"),
-        ("orders", "register_read", "accepted 1 3 4"),
-        ("orders", "flash_read", "accepted 1 2 3 8 9"),
-        ("orders", "lower_bank", "1 2 3"),
-        ("orders", "page", "accepted 1 2 8"),
-        ("orders", "step", "counted 1 2 3 6"),
-        ("orders", "reset", "untouched 1 2 3 7"),
-        ("orders", "startup", "accepted 1 3 5"),
-        ("orders", "update_start", "accepted 1 2 3 5 10 11 12"),
-        ("orders", "turn", "accepted 1 2 3 5 6 13"),
-        ("impossible", "possible", "0 1"),
-        ("pages", "page", "accepted 2 8"),
-        ("protection", "protected", "0 1"),
-        ("updates", "update_start", "accepted 2 5 10 11 12"),
-        ("updates", "turn", "accepted written event done 2 5 6 13"),
-        ("plans", "plan", "accepted 15 16"),
-        ("sheets", "page_sheet", "accepted 1 2 3 18"),
-        ("lanes", "lanes_out", "accepted 22"),
-        ("lanes", "lanes_back", "accepted 22"),
-        ("sums", "valid_by_sum", "0 1"),
-        ("probes", "register_read", "accepted 4"),
-        ("probes", "walk", "written untouched"),
-    ] {
+    for (subject, call, expected) in EXPECTED.iter().copied() {
         let expected: BTreeSet<String> = expected.split(' ').map(String::from).collect();
         assert_eq!(outcomes[&(subject, call)], expected, "{subject} {call}");
     }

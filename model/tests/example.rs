@@ -54,7 +54,8 @@ impl Sign {
     /// A reset and a start-up.
     fn restart(&mut self, kind: u32, mask: [u32; 4]) {
         let device = self.device;
-        self.device = reset(NUMBERS, device, &mut self.banks(), &[], kind, mask).unwrap();
+        let restart = reset(NUMBERS, device, &mut self.banks(), &[], kind, mask).unwrap();
+        self.device = restart.device;
         self.print("reset");
         self.device = start_up(NUMBERS, self.device).unwrap();
         let bank = match self.device.registers[NVMCON] & (BFSWAP | PFSWAP) {
@@ -152,6 +153,7 @@ fn calls() {
         String::from("page 1 1 1 64 4294967295 0 1"),
         format!("step 1 1 1 {RUNNING} {BANKS} 0 0 0"),
         String::from("plan 200 60 2 1500 240 9960 360"),
+        String::from("compare_reason 4294836225 4294967295"),
         String::from("lanes_out 8 0 8 0 1 1 2 2 3 3 4 4 5 5 6 6 7 7 8 8 0 0"),
     ];
     let mut text = String::new();

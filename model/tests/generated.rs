@@ -9,7 +9,8 @@ use model::script::{play, records};
 /// The declines of each call.
 fn declines(call: Call) -> &'static [u32] {
     match call {
-        Call::Compare | Call::Possible | Call::Protected | Call::ValidBySum | Call::Walk => &[],
+        Call::Compare | Call::CompareReason => &[],
+        Call::Possible | Call::Protected | Call::ValidBySum | Call::Walk => &[],
         Call::Store => &[1, 3, 4, 5],
         Call::RegisterRead => &[1, 3, 4],
         Call::FlashRead => &[1, 2, 3, 8, 9],
@@ -116,7 +117,7 @@ fn every_decline_occurs() {
         let numbers = &seen[shape.name];
         let mut expected: BTreeSet<u32> = declines(shape.call).iter().copied().collect();
         match shape.call {
-            Call::Compare => expected.extend([1, 2]),
+            Call::Compare | Call::CompareReason => expected.extend([1, 2]),
             Call::Possible | Call::Protected | Call::ValidBySum => expected.extend([0, 1]),
             _ => expected.extend([0]),
         }

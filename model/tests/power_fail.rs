@@ -139,8 +139,8 @@ impl Sign {
 fn restart(numbers: [u32; 3], state: &mut State, kind: u32, mask: [u32; 4]) {
     let [one, two] = &mut state.banks;
     let mut banks = Banks { one, two };
-    let device = reset(numbers, state.device, &mut banks, &[], kind, mask).unwrap();
-    state.device = start_up(numbers, device).unwrap();
+    let restart = reset(numbers, state.device, &mut banks, &[], kind, mask).unwrap();
+    state.device = start_up(numbers, restart.device).unwrap();
 }
 
 /// The bank that BFSWAP and PFSWAP both put lower.

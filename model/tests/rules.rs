@@ -120,7 +120,8 @@ fn a_brown_out_tears_and_keeps_nvmers() {
     let mut running = stored(ready(2, 0x1D00_0080), NVMCON, SET, WR);
     running.registers[NVMCON2] = device.registers[NVMCON2];
     let mask = [0xFF, 0, ALL_ONES, 0xF000_0000];
-    let after = reset(SMALL, running, &mut banks, &[], 1, mask).unwrap();
+    let restart = reset(SMALL, running, &mut banks, &[], 1, mask).unwrap();
+    let after = restart.device;
     assert_eq!(after.registers[NVMCON], WRERR | LVDERR | 2);
     assert_eq!(after.registers[NVMCON2], 0x501F_0000);
     assert_eq!(two[32..36], [0xFFFF_FF00, ALL_ONES, 0, 0x0FFF_FFFF]);

@@ -57,7 +57,7 @@ impl Sign {
     /// A reset and a start-up; the bank that runs then.
     fn restart(&mut self, kind: u32, mask: [u32; 4]) -> Result<Option<Bank>, Decline> {
         let (one, two) = (&mut self.one, &mut self.two);
-        self.device = reset(GEOMETRY, self.device, one, two, &[], kind, mask)?;
+        self.device = reset(GEOMETRY, self.device, one, two, &[], kind, mask)?.device;
         self.print_sign("reset");
         self.device = start_up(GEOMETRY, self.device)?;
         let bank = self.device.running_bank();

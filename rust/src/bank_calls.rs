@@ -1,6 +1,6 @@
 //! Calls on a device and its banks, `one` and `two`.
 
-use crate::{ffi, Decline, Device, Geometry};
+use crate::{ffi, Decline, Device, Geometry, Reason};
 
 /// What a step leaves beside the banks.
 #[derive(Clone, Copy, Debug, PartialEq, Eq, Hash)]
@@ -60,9 +60,19 @@ pub fn step(
     })
 }
 
+/// What a reset leaves.
+#[derive(Clone, Copy, Debug, PartialEq, Eq, Hash)]
+pub struct Restarted {
+    /// The device afterwards.
+    pub device: Device,
+    /// Why BFSWAP is as it is now.
+    pub reason: Reason,
+}
+
 /// A reset of a kind of [`crate::reset_kind`].
 ///
-/// While an operation runs it tears the quad of the next step: the mask chooses, bit by bit, intended (1) or old (0).
+/// While an operation runs it tears the quad of the next step: the mask chooses, bit by bit, intended (1) or old (0). Then it sets BFSWAP
+/// by comparing the sequence words, and gives the reason.
 pub fn reset(
     geometry: Geometry,
     device: Device,
@@ -71,8 +81,11 @@ pub fn reset(
     sram: &[u32],
     kind: u32,
     mask: [u32; 4],
-) -> Result<Device, Decline> {
+) -> Result<Restarted, Decline> {
     let answer = ffi::reset(geometry, device, one, two, sram, kind, mask);
     Decline::judge(answer.decline)?;
-    Ok(answer.device)
+    Ok(Restarted {
+        device: answer.device,
+        reason: Reason::of(answer.reason),
+    })
 }

@@ -16,7 +16,7 @@ pub struct Stored {
 pub struct RegisterRead {
     /// The register's value.
     pub value: u32,
-    /// The device afterwards: as it was where the key step was 0 or 1; where it was 2 or 3 it is 0, and nothing else changed.
+    /// The device afterwards: as it was where its key step was 0 or 1; where that was 2 or 3, the key step is 0 and nothing else changed.
     pub device: Device,
 }
 

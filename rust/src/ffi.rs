@@ -30,6 +30,19 @@ pub(crate) struct DeviceAnswer {
 }
 
 #[repr(C)]
+pub(crate) struct ResetAnswer {
+    pub decline: u32,
+    pub reason: u32,
+    pub device: Device,
+}
+
+#[repr(C)]
+pub(crate) struct CompareAnswer {
+    pub bank: u32,
+    pub reason: u32,
+}
+
+#[repr(C)]
 pub(crate) struct RegisterReadAnswer {
     pub decline: u32,
     pub value: u32,
@@ -148,7 +161,9 @@ extern "C" {
         sram_words: usize,
         kind: u32,
         mask: Mask,
-    ) -> DeviceAnswer;
+    ) -> ResetAnswer;
+
+    fn yohrundel_compare(first: u32, other: u32) -> CompareAnswer;
 
     fn yohrundel_update_start(
         g: Geometry,
@@ -285,7 +300,7 @@ pub(crate) fn reset(
     sram: &[u32],
     kind: u32,
     words: [u32; 4],
-) -> DeviceAnswer {
+) -> ResetAnswer {
     let (one, one_words) = (one.as_mut_ptr(), one.len());
     let (two, two_words) = (two.as_mut_ptr(), two.len());
     let (sram, sram_words) = (sram.as_ptr(), sram.len());
@@ -296,6 +311,11 @@ pub(crate) fn reset(
             g, d, one, one_words, two, two_words, sram, sram_words, kind, mask,
         )
     }
+}
+
+pub(crate) fn compare(first: u32, other: u32) -> CompareAnswer {
+    // SAFETY: it takes numbers alone.
+    unsafe { yohrundel_compare(first, other) }
 }
 
 pub(crate) fn update_start(

@@ -4,14 +4,15 @@
 //! declined by a [`Decline`]; a declined call leaves everything as it was. Any numbers, lengths and contents are taken.
 //!
 //! ```
-//! use yohrundel::{reset, start_up, update_start, Bank, Decline, Device, Geometry};
+//! use yohrundel::{reset, start_up, update_start, Bank, Decline, Device, Geometry, Reason};
 //!
 //! fn main() -> Result<(), Decline> {
 //!     let sign = Geometry { q: 1, b: 1, p: 1 };
 //!     let (mut one, mut two) = ([!0; 64], [!0; 64]);
 //!     one[sign.sequence_index()?] = 0xFFFE_0001;
-//!     let device = reset(sign, Device::power_on(), &mut one, &mut two, &[], 0, [0; 4])?;
-//!     let device = start_up(sign, device)?;
+//!     let restarted = reset(sign, Device::power_on(), &mut one, &mut two, &[], 0, [0; 4])?;
+//!     assert_eq!(restarted.reason, Reason::OnlyOneValid);
+//!     let device = start_up(sign, restarted.device)?;
 //!     assert_eq!(device.running_bank(), Some(Bank::One));
 //!     let update = update_start(sign, device, &one, &two, &[7; 64])?;
 //!     println!("an update has {} actions", update.total);
@@ -24,6 +25,7 @@
 #![deny(missing_docs)]
 
 mod bank_calls;
+mod compare;
 mod decline;
 mod device;
 mod device_calls;
@@ -36,7 +38,8 @@ mod script_calls;
 mod sheet;
 mod update_calls;
 
-pub use bank_calls::{flash_read, lower_bank, page, reset, step, Stepped};
+pub use bank_calls::{flash_read, lower_bank, page, reset, step, Restarted, Stepped};
+pub use compare::{compare, Compared, Reason};
 pub use decline::Decline;
 pub use device::{Bank, Device};
 pub use device_calls::{register_read, start_up, store, RegisterRead, Stored};

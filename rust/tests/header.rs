@@ -1,8 +1,9 @@
 //! The numbers of include/yohrundel.h are those of the crate.
 
 use std::collections::BTreeMap;
+use std::fmt::Debug;
 
-use yohrundel::{form, nvmcon, register, reset_kind, Decline};
+use yohrundel::{form, nvmcon, register, reset_kind, Decline, Reason};
 
 /// Each name that the header gives a number, without its prefix.
 fn header() -> BTreeMap<String, u32> {
@@ -25,10 +26,10 @@ fn named_number(line: &str) -> Option<(String, u32)> {
     Some((String::from(name), number.ok()?))
 }
 
-/// A name of the crate as C writes it.
-fn constant(decline: Decline) -> String {
-    let mut name = String::from("DECLINE");
-    for letter in format!("{decline:?}").chars() {
+/// A variant's name as C writes it, after what it is of.
+fn constant(of: &str, variant: impl Debug) -> String {
+    let mut name = String::from(of);
+    for letter in format!("{variant:?}").chars() {
         if letter.is_uppercase() {
             name.push('_');
         }
@@ -43,6 +44,8 @@ fn numbers() {
         ("ACCEPTED", 0),
         ("MOST_SRAM_WORDS", 16_384),
         ("MOST_WINDOWS", 14),
+        // The wrapper's reset gives an error then.
+        ("REASON_NOT_COMPARED", 4),
         ("NVMCON", register::NVMCON),
         ("NVMKEY", register::NVMKEY),
         ("NVMADDR", register::NVMADDR),
@@ -68,8 +71,9 @@ fn numbers() {
         ("PFSWAP", nvmcon::PFSWAP),
         ("BFSWAP", nvmcon::BFSWAP),
     ];
-    let declines = Decline::ALL.map(|decline| (constant(decline), decline.number()));
+    let declines = Decline::ALL.map(|decline| (constant("DECLINE", decline), decline.number()));
+    let reasons = Reason::ALL.map(|reason| (constant("REASON", reason), reason.number()));
     let named = named.map(|(name, number)| (String::from(name), number));
-    let expected: BTreeMap<String, u32> = declines.into_iter().chain(named).collect();
-    assert_eq!(header(), expected);
+    let expected = declines.into_iter().chain(reasons).chain(named);
+    assert_eq!(header(), expected.collect::<BTreeMap<String, u32>>());
 }

@@ -21,6 +21,7 @@ pub enum Call {
     LanesBack,
     ValidBySum,
     Walk,
+    CompareReason,
 }
 
 /// The inputs of a call, in the order in which a line gives them.
@@ -67,7 +68,7 @@ const fn shape(
 }
 
 /// The calls of the base stand first, those of later requests follow.
-pub const SHAPES: [Shape; 19] = [
+pub const SHAPES: [Shape; 20] = [
     shape(Call::Compare, "compare", false, false, 0, 2),
     shape(Call::Possible, "possible", true, true, 0, 0),
     shape(Call::Protected, "protected", true, true, 0, 3),
@@ -102,6 +103,7 @@ pub const SHAPES: [Shape; 19] = [
         rest: Rest::Moves,
         ..shape(Call::Walk, "walk", true, true, 3, 0)
     },
+    shape(Call::CompareReason, "compare_reason", false, false, 0, 2),
 ];
 
 /// How many calls the base has.

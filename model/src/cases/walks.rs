@@ -80,11 +80,8 @@ impl Case {
             }
             3 => {
                 let mask = [numbers[1], numbers[2], numbers[3], numbers[4]];
-                (
-                    reset(geometry, device, &mut banks, sram, numbers[0], mask)?,
-                    0,
-                    false,
-                )
+                let after = reset(geometry, device, &mut banks, sram, numbers[0], mask)?;
+                (after.device, after.reason.number(), false)
             }
             4 => (start_up(geometry, device)?, 0, false),
             _ => {

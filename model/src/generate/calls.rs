@@ -44,7 +44,9 @@ pub fn case(random: &mut Random, call: Call, max_words: u32) -> Case {
 
 fn fill_case(random: &mut Random, geometry: &Geometry, case: &mut Case) {
     match case.call {
-        Call::Compare => case.numbers = memory::sequence_pair(random).to_vec(),
+        Call::Compare | Call::CompareReason => {
+            case.numbers = memory::sequence_pair(random).to_vec();
+        }
         Call::Possible => possible_case(random, geometry, case),
         Call::Protected => protected_case(random, geometry, case),
         Call::Store => store_case(random, geometry, case),

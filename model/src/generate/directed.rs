@@ -12,6 +12,7 @@ mod plans;
 mod probes;
 mod protection;
 mod reads;
+mod reasons;
 mod resets;
 mod rows;
 mod sheets;
@@ -60,12 +61,13 @@ pub const SUBJECTS: [Subject; 16] = [
 ];
 
 /// Subjects of the calls that later requests added.
-pub const REQUEST_SUBJECTS: [Subject; 5] = [
+pub const REQUEST_SUBJECTS: [Subject; 6] = [
     subject("plans", plans::cases),
     subject("sheets", sheets::cases),
     subject("lanes", lanes::cases),
     subject("sums", sums::cases),
     subject("probes", probes::cases),
+    subject("reasons", reasons::cases),
 ];
 
 /// The cases of the base's subjects.

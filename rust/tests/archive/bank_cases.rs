@@ -38,8 +38,9 @@ pub fn reset_case(inputs: &mut Inputs) -> String {
     let banks = [inputs.list(), inputs.list()];
     let (sram, kind, mask) = (inputs.list(), inputs.number(), inputs.four());
     on_banks(&banks, |one, two| {
-        let after = reset(sign, device, one, two, &sram, kind, mask)?;
-        Ok(device_numbers(&after))
+        let restarted = reset(sign, device, one, two, &sram, kind, mask)?;
+        let reason = restarted.reason.number().into();
+        Ok([device_numbers(&restarted.device), vec![reason]].concat())
     })
 }
 

@@ -10,7 +10,7 @@ use crate::answers::{device_and_event, device_numbers, text, Answer};
 use crate::bank_cases::{play_case, reset_case, step_case, turn_case};
 use crate::byte_cases::{lanes_case, sheet_case};
 use crate::inputs::Inputs;
-use crate::rules::{compare, possible, protected};
+use crate::rules::{self, possible, protected};
 
 /// What no call of the archive gives: the tests of the program `cases` compare it.
 const NO_CALLS: &[&str] = &["valid_by_sum", "walk"];
@@ -40,7 +40,11 @@ fn answer(left: &str) -> String {
 
 fn call(name: &str, inputs: &mut Inputs) -> String {
     match name {
-        "compare" => compare(inputs).to_string(),
+        "compare" => rules::compare(inputs).to_string(),
+        "compare_reason" => {
+            let compared = compare(inputs.number(), inputs.number());
+            format!("{} {}", compared.bank.number(), compared.reason.number())
+        }
         "possible" => u32::from(possible(inputs)).to_string(),
         "protected" => u32::from(protected(inputs)).to_string(),
         "store" => text(&store_case(inputs)),

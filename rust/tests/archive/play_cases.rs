@@ -141,7 +141,7 @@ fn play_record(
         // "Resets use mask 0."
         Record::Reset { kind } => {
             let after = reset(numbers, device, banks, sram, kind.into(), [0; 4])?;
-            Ok((after, false))
+            Ok((after.device, false))
         }
     }
 }

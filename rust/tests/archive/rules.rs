@@ -15,9 +15,9 @@ pub fn compare(inputs: &mut Inputs) -> u32 {
         bank[28] = inputs.number();
         bank
     });
-    let device =
+    let restarted =
         reset(sign, Device::power_on(), &mut one, &mut two, &[], 0, [0; 4]).expect("a power-on");
-    1 + u32::from(device.nvmcon & BFSWAP != 0)
+    1 + u32::from(restarted.device.nvmcon & BFSWAP != 0)
 }
 
 /// Decline 3, as a register read meets it.

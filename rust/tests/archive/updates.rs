@@ -37,7 +37,7 @@ pub struct Sign {
     old: usize,
     old_words: Vec<u32>,
     pub new_words: Vec<u32>,
-    turns: u64,
+    pub turns: u64,
 }
 
 fn device(outside: &OutsideDevice) -> Device {
@@ -133,6 +133,38 @@ impl Sign {
         (!done).then_some(place)
     }
 
+    /// One turn without SRAM, which may be declined; the answers agree.
+    pub fn try_turn(&mut self, place: u32) -> Result<u32, Decline> {
+        let [one, two] = &mut self.outside_banks;
+        let mut banks = Banks { one, two };
+        let (numbers, before) = (self.numbers, self.outside_device);
+        let expected = update::turn(numbers, before, &mut banks, &self.image, &[], place);
+        let [one, two] = &mut self.banks;
+        let turned = turn(
+            self.geometry,
+            self.device,
+            one,
+            two,
+            &self.image,
+            &[],
+            place,
+        );
+        match (expected, turned) {
+            (Ok(expected), Ok(turned)) => {
+                self.outside_device = expected.device;
+                self.device = turned.device;
+                self.turns += 1;
+                self.compare(&format!("place {place}"));
+                Ok(turned.outcome.place)
+            }
+            (Err(refusal), Err(decline)) => {
+                assert_eq!(refusal.number(), decline.number());
+                Err(decline)
+            }
+            _ => panic!("one takes the turn at place {place}, the other does not"),
+        }
+    }
+
     /// A register read; the values agree.
     pub fn read(&mut self, register: u32) {
         let (numbers, before) = (self.numbers, self.outside_device);
@@ -164,11 +196,14 @@ impl Sign {
         let [one, two] = &mut self.outside_banks;
         let mut banks = Banks { one, two };
         let (numbers, before) = (self.numbers, self.outside_device);
-        self.outside_device = flash::reset(numbers, before, &mut banks, sram, kind, mask)
+        let expected = flash::reset(numbers, before, &mut banks, sram, kind, mask)
             .expect("the model takes the reset");
+        self.outside_device = expected.device;
         let [one, two] = &mut self.banks;
-        self.device = reset(self.geometry, self.device, one, two, sram, kind, mask)
+        let restarted = reset(self.geometry, self.device, one, two, sram, kind, mask)
             .expect("the archive takes the reset");
+        self.device = restarted.device;
+        assert_eq!(restarted.reason.number(), expected.reason.number());
         self.compare(&format!("reset of kind {kind} with the mask {mask:X?}"));
         self.outside_device =
             store::start_up(numbers, self.outside_device).expect("the model takes the start-up");

@@ -4,7 +4,7 @@ use model::device::{protected, Device};
 use model::flash::reset;
 use model::geometry::{Bank, Banks, Geometry, Kind, Side};
 use model::script::{play_record, Record};
-use model::sequence::new_quad;
+use model::sequence::{new_quad, Reason};
 use model::store::start_up;
 use model::update::{turn, update_start};
 use model::Answer;
@@ -21,6 +21,8 @@ pub struct Sign {
     pub old: Vec<u32>,
     pub new: Vec<u32>,
     image: Vec<u32>,
+    /// Why the last reset put its bank lower.
+    pub why: &'static str,
 }
 
 /// Words of a bank that no file gives.
@@ -48,6 +50,7 @@ impl Sign {
             old,
             new: with_sequence(&geometry, image.clone(), 2),
             image,
+            why: "",
         };
         assert_eq!(sign.restart(0, [0; 4]), Bank::One);
         sign
@@ -67,6 +70,7 @@ impl Sign {
             old,
             new: blank.clone(),
             image: blank,
+            why: "",
         }
     }
 
@@ -85,9 +89,15 @@ impl Sign {
     pub fn restart(&mut self, kind: u32, mask: [u32; 4]) -> Bank {
         let [one, two] = &mut self.banks;
         let mut banks = Banks { one, two };
-        let device = reset(self.numbers, self.device, &mut banks, &[], kind, mask);
-        let device = start_up(self.numbers, device.expect("a reset"));
-        self.device = device.expect("a start-up");
+        let restart = reset(self.numbers, self.device, &mut banks, &[], kind, mask);
+        let restart = restart.expect("a reset");
+        self.why = match restart.reason {
+            Reason::Higher => "its sequence number is the higher one",
+            Reason::Equal => "both banks have the same sequence number",
+            Reason::OnlyOneValid => "the other bank has no valid sequence word",
+            Reason::NoneValid => "no bank has a valid sequence word",
+        };
+        self.device = start_up(self.numbers, restart.device).expect("a start-up");
         self.runs().expect("a bank that runs")
     }
 

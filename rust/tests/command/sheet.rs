@@ -51,8 +51,8 @@ fn expected(
     let geometry = Geometry::new(numbers).expect("a sign");
     let mut banks = Banks { one, two };
     let device = Device::reset_values();
-    let device = reset(numbers, device, &mut banks, &[], 0, [0; 4]);
-    let mut device = start_up(numbers, device.expect("a reset")).expect("a start-up");
+    let restart = reset(numbers, device, &mut banks, &[], 0, [0; 4]).expect("a reset");
+    let mut device = start_up(numbers, restart.device).expect("a start-up");
     for (register, _, value) in registers {
         device.registers[*register] = *value;
     }

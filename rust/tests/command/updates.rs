@@ -27,10 +27,10 @@ fn whole(sign: &mut Sign) -> String {
     let total = sign.start().expect("it is accepted");
     sign.turns(0, total);
     let runs = sign.restart(0, [0; 4]).number();
-    let (picture, ending) = (sign.picture(), ending(sign));
+    let (why, picture, ending) = (sign.why, sign.picture(), ending(sign));
     format!(
         "It has {total} actions and is done after {total} turns.\n\
-         After a power-on reset and start-up bank {runs} runs.\n\n{picture}\n{ending}"
+         After a power-on reset and start-up bank {runs} runs:\n{why}.\n\n{picture}\n{ending}"
     )
 }
 
@@ -43,9 +43,12 @@ fn ending(sign: &Sign) -> &'static str {
 /// What an update prints.
 fn update(numbers: [u32; 3], image: Option<Vec<u32>>) -> String {
     let mut sign = Sign::fresh(numbers, image);
-    let before = sign.picture();
+    let (why, before) = (sign.why, sign.picture());
     let whole = whole(&mut sign);
-    format!("Before the update bank 1 runs.\n\n{before}\nThe update is accepted. {whole}\n{LEGEND}")
+    format!(
+        "Before the update bank 1 runs:\n{why}.\n\n{before}\n\
+         The update is accepted. {whole}\n{LEGEND}"
+    )
 }
 
 /// The quads that a reset changed: the index of the bank and the quad's number in it.
@@ -87,7 +90,7 @@ fn cut(mut sign: Sign, place: u32, kind: u32, mask: [u32; 4]) -> (String, Bank) 
     let (total, at_cut, before) = (total(&sign.geometry), sign.picture(), sign.clone());
     let runs = sign.restart(kind, mask);
     let (change, name) = (change(&before, &sign), KINDS[kind as usize]);
-    let (number, after) = (runs.number(), sign.picture());
+    let (number, why, after) = (runs.number(), sign.why, sign.picture());
     let again = match runs {
         Bank::One => format!("The same update is accepted again. {}", whole(&mut sign)),
         Bank::Two => format!("The update is complete.\n{}", ending(&sign)),
@@ -96,7 +99,7 @@ fn cut(mut sign: Sign, place: u32, kind: u32, mask: [u32; 4]) -> (String, Bank) 
         "The update has {total} actions.\n\
          At place {place} the supply fails while {operation} operation runs.\n\n{at_cut}\n\
          The reset ({name}) {change}.\n\
-         After the reset and start-up bank {number} runs.\n\n{after}\n{again}\n{LEGEND}"
+         After the reset and start-up bank {number} runs:\n{why}.\n\n{after}\n{again}\n{LEGEND}"
     );
     (text, runs)
 }

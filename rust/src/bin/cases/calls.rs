@@ -59,6 +59,7 @@ const CALLS: &[(&str, Call)] = &[
     ("lanes_out", lanes::lanes_out),
     ("lanes_back", lanes::lanes_back),
     ("valid_by_sum", rules::valid_by_sum),
+    ("compare_reason", rules::compare_reason),
     // Lists of calls.
     ("walk", walk::walk),
 ];

@@ -25,7 +25,8 @@ MASK chooses, where an operation runs, which bits of its next quad get through
 (1) and which stay as they were (0): a hexadecimal word for all four words, or
 four with commas between them. It is 0 where none is given.
 It prints a picture of both banks at the cut, which bank runs after the reset
-and start-up, whether the same update is accepted again, and how that ends.",
+and start-up and why, whether the same update is accepted again, and how that
+ends.",
     run,
 };
 

@@ -65,8 +65,8 @@ fn take_registers(arguments: &mut Arguments) -> Result<Vec<(Register, u32)>, Fai
 /// The device after power-on and start-up. No operation runs, so no word changes.
 fn started(geometry: Geometry, mut one: Vec<u32>, mut two: Vec<u32>) -> Result<Device, Decline> {
     let (device, one, two) = (Device::power_on(), &mut one, &mut two);
-    let device = reset(geometry, device, one, two, &[], POWER_ON, [0; 4])?;
-    start_up(geometry, device)
+    let restarted = reset(geometry, device, one, two, &[], POWER_ON, [0; 4])?;
+    start_up(geometry, restarted.device)
 }
 
 fn sheet(geometry: Geometry, device: Device, one: &[u32], two: &[u32]) -> Result<Vec<u8>, Decline> {

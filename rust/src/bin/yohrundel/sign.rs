@@ -3,7 +3,7 @@
 use yohrundel::reset_kind::POWER_ON;
 use yohrundel::{
     play, play_length, reset, start_up, turn_lent, update_start, Bank, Decline, Device, Geometry,
-    TurnOutcome,
+    Reason, TurnOutcome,
 };
 
 use crate::progress::Progress;
@@ -15,6 +15,8 @@ pub const NEW_QUAD: [u32; 4] = [0xFFFD_0002, !0, !0, !0];
 pub struct Sign {
     pub geometry: Geometry,
     pub device: Device,
+    /// Why the last reset put a bank lower; none before the first.
+    pub reason: Option<Reason>,
     pub banks: [Vec<u32>; 2],
     /// The banks before the update or the play.
     old: [Vec<u32>; 2],
@@ -31,6 +33,7 @@ impl Sign {
         let mut sign = Sign {
             geometry,
             device: Device::power_on(),
+            reason: None,
             old: banks.clone(),
             banks,
             new: with_quad(geometry, &image, NEW_QUAD)?,
@@ -49,6 +52,7 @@ impl Sign {
         Ok(Sign {
             geometry,
             device: Device::power_on(),
+            reason: None,
             old: banks.clone(),
             banks,
             new: blank.clone(),
@@ -68,8 +72,9 @@ impl Sign {
     /// A reset and a start-up.
     pub fn restart(&mut self, kind: u32, mask: [u32; 4]) -> Result<(), Decline> {
         let [one, two] = &mut self.banks;
-        let device = reset(self.geometry, self.device, one, two, &[], kind, mask)?;
-        self.device = start_up(self.geometry, device)?;
+        let restarted = reset(self.geometry, self.device, one, two, &[], kind, mask)?;
+        self.reason = Some(restarted.reason);
+        self.device = start_up(self.geometry, restarted.device)?;
         Ok(())
     }
 

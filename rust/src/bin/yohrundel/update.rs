@@ -21,9 +21,9 @@ The sign has Q quads per row (1, 2, 4, 8, 16, 32, 64 or 128), B boot pages (1 to
 number 1, bank 2 is erased.
 IMAGE is a file of words, lowest byte first, exactly one bank long: (B + P) x
 128 x Q bytes; - is standard input. Without it the image is made up.
-It prints the update's total and turns, which bank runs before and after it,
-whether the old bank kept every word and the new one is the image, and a picture
-of both banks before and after.
+It prints the update's total and turns, which bank runs before and after it and
+why, whether the old bank kept every word and the new one is the image, and a
+picture of both banks before and after.
 Beside an update a probe may read registers while the key step is 0 or 1: such a
 read changes nothing. A read at key step 2 or 3 closes the key and loses a store
 of the update; see docs/POWER-FAIL.md.",

@@ -7,11 +7,15 @@ use crate::picture::picture;
 use crate::progress::Progress;
 use crate::sign::{Sign, NEW_QUAD};
 
-/// The bank that runs, as the rest of a sentence.
+/// The bank that runs, and on a line of its own why the last reset chose it, as the rest of a sentence.
 pub fn runs(sign: &Sign) -> String {
-    match sign.device.running_bank() {
+    let runs = match sign.device.running_bank() {
         Some(bank) => format!("bank {} runs", bank.number()),
-        None => String::from("no bank runs"),
+        None => return String::from("no bank runs"),
+    };
+    match sign.reason {
+        Some(reason) => format!("{runs}:\n{reason}"),
+        None => runs,
     }
 }
 

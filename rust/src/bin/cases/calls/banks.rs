@@ -58,8 +58,9 @@ pub fn reset(inputs: &mut Inputs) -> Answer {
     let (kind, mask) = (inputs.number()?, inputs.four()?);
     let mut after = before.clone();
     let (one, two) = (&mut after.one, &mut after.two);
-    let device = yohrundel::reset(sign, device, one, two, &sram, kind, mask)?;
+    let restarted = yohrundel::reset(sign, device, one, two, &sram, kind, mask)?;
     Ok(Outputs::accepted()
-        .device(&device)
+        .device(&restarted.device)
+        .number(restarted.reason.number())
         .bank_changes(&before, &after))
 }

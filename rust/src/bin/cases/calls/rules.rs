@@ -10,30 +10,27 @@ use super::{Answer, Refusal};
 use crate::inputs::Inputs;
 use crate::outputs::Outputs;
 
-/// The bank that a reset of a smallest sign with these two sequence words puts lower.
+/// The bank alone.
 pub fn compare(inputs: &mut Inputs) -> Answer {
-    let (first, second) = (inputs.number()?, inputs.number()?);
-    Ok(Outputs::only(if goes_lower(first, second)? { 2 } else { 1 }))
+    let compared = yohrundel::compare(inputs.number()?, inputs.number()?);
+    Ok(Outputs::only(compared.bank.number()))
 }
 
-/// A valid word in bank 2 goes lower beside an erased one, which is not valid, and no other word does.
+pub fn compare_reason(inputs: &mut Inputs) -> Answer {
+    let compared = yohrundel::compare(inputs.number()?, inputs.number()?);
+    Ok(Outputs::only(compared.bank.number()).number(compared.reason.number()))
+}
+
+/// A valid word in bank 2 goes lower beside an erased one, which is not valid, and no other word does: as a reset of a smallest sign finds.
 pub fn valid_by_sum(inputs: &mut Inputs) -> Answer {
-    let word = inputs.number()?;
-    Ok(Outputs::only(u32::from(goes_lower(!0, word)?)))
-}
-
-/// Whether a reset of a smallest sign with these two sequence words puts bank 2 lower.
-fn goes_lower(first: u32, second: u32) -> Result<bool, Decline> {
     let sign = Geometry { q: 1, b: 1, p: 1 };
-    let bank = |word| {
-        let mut bank = [!0; 64];
-        bank[28] = word;
-        bank
-    };
-    let (mut one, mut two) = (bank(first), bank(second));
+    let (mut one, mut two) = ([!0; 64], [!0; 64]);
+    two[28] = inputs.number()?;
     let device = Device::power_on();
-    let device = reset(sign, device, &mut one, &mut two, &[], POWER_ON, [0; 4])?;
-    Ok(device.nvmcon & BFSWAP != 0)
+    let restarted = reset(sign, device, &mut one, &mut two, &[], POWER_ON, [0; 4])?;
+    Ok(Outputs::only(u32::from(
+        restarted.device.nvmcon & BFSWAP != 0,
+    )))
 }
 
 /// Whether a register read is not declined by 3.

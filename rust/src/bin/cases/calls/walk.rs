@@ -110,8 +110,9 @@ impl Sign {
                 Ok((0, stepped.event))
             }
             Move::Reset { kind, mask } => {
-                self.device = reset(geometry, device, one, two, &self.sram, kind, mask)?;
-                Ok((0, false))
+                let restarted = reset(geometry, device, one, two, &self.sram, kind, mask)?;
+                self.device = restarted.device;
+                Ok((restarted.reason.number(), false))
             }
             Move::StartUp => {
                 self.device = start_up(geometry, device)?;
