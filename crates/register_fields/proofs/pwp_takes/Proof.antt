@@ -1,24 +1,27 @@
--- Each way through the tests is a case of the definition.
+-- Without the key no field takes the value; with it, those under the lock bit where that is 1.
+use mathlib.Core.Path.{_≡_, sym, _∙_}
+use mathlib.Core.Bool.{true}
 use borrow.Author.Tests.{eq-eqb, ne-eqb}
-use mathlib.Core.Path.{sym, _∙_}
 use borrow.Author.Needs.{needs}
+use Rattle.device.specs.Record.{isOpen}
 use Rattle.register_fields.specs.Fields.{pwpTakesOf}
 use Rattle.register_fields.proofs.pwp_takes.Statement.{statement}
 use Rattle.register_fields.proofs.pwp_takes.Tie as tie
 
-pub pwp-takes-spec : {M : Type 1} → statement M
+key-open : (c : tie.Else1) → isOpen (c .before .before .args .d) ≡ true
+key-open c = eq-eqb _ _ (c .if1 .left)
+
+key-shut : tie.Need-returns
 unfolding pwpTakesOf
-pwp-takes-spec =
-    tie.close
-    (tie.spec
-    (λ c. rw (ne-eqb _ _ (c .if1 .taken)))
-    (λ c κs. search needs)
-    (λ c. search needs)
-    (λ c. rw (
-      eq-eqb _ _ (c .before .before .if1 .left),
-      sym (c .before .has .ensures) ∙ c .if2 .taken,
-    ))
-    (λ c. rw (
-      eq-eqb _ _ (c .before .before .if1 .left),
-      sym (c .before .has .ensures) ∙ c .if2 .left,
-    )))
+key-shut c = rw (ne-eqb _ _ (c .if1 .taken))
+
+unlocked : tie.Need-returns-2
+unfolding pwpTakesOf
+unlocked c = let test = c .before in rw (key-open (test .before), sym (test .has .ensures) ∙ c .if2 .taken)
+
+locked : tie.Need-returns-3
+unfolding pwpTakesOf
+locked c = let test = c .before in rw (key-open (test .before), sym (test .has .ensures) ∙ c .if2 .left)
+
+pub pwp-takes-spec : {M : Type 1} → statement M
+pwp-takes-spec = tie.close (tie.spec key-shut (λ c κs. search needs) (λ c. search needs) unlocked locked)
