@@ -11,13 +11,11 @@ differ true false = refl
 differ false true = refl
 differ false false = refl
 
+of-program : tie.Need-returns
+of-program c = let test = c .before in let a = test .before .args in rw (test .if1 .taken) (differ (a .l .upper) (a .pfswap))
+
+of-boot : tie.Need-returns-2
+of-boot c = let test = c .before in let a = test .before .args in rw (test .if1 .left) (differ (a .l .upper) (a .bfswap))
+
 pub in-second-spec : {M : Type 1} → statement M
-in-second-spec =
-    tie.close
-    (tie.spec
-    (λ c.
-    let a = c .before .before .args in
-    rw (c .before .if1 .taken) (differ (a .l .upper) (a .pfswap)))
-    (λ c.
-    let a = c .before .before .args in
-    rw (c .before .if1 .left) (differ (a .l .upper) (a .bfswap))))
+in-second-spec = tie.close (tie.spec of-program of-boot)

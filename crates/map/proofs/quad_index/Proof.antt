@@ -3,11 +3,11 @@ use borrow.Author.Needs.{needs}
 use Rattle.map.proofs.quad_index.Statement.{statement}
 use Rattle.map.proofs.quad_index.Tie as tie
 
+of-program : tie.Need-returns
+of-program c = let boot = c .before in rw (boot .boot-quads .ensures, boot .before .if1 .taken)
+
+of-boot : tie.Need-returns-2
+of-boot c = rw (c .before .if1 .left)
+
 pub quad-index-spec : {M : Type 1} → statement M
-quad-index-spec =
-    tie.close
-    (tie.spec
-    (λ c κs. search needs)
-    (λ c. search needs)
-    (λ c. rw (c .before .boot-quads .ensures, c .before .before .if1 .taken))
-    (λ c. rw (c .before .if1 .left)))
+quad-index-spec = tie.close (tie.spec (λ c κs. search needs) (λ c. search needs) of-program of-boot)
