@@ -5,10 +5,8 @@ use borrow.Author.Needs.{needs}
 use Rattle.sequence.proofs.sequence_quad.Statement.{statement}
 use Rattle.sequence.proofs.sequence_quad.Tie as tie
 
+has-boot-quad : tie.Need-sub-result
+has-boot-quad c = let start = c .before in omega (arith, mul-le-mul (start .pre .b-low) (start .pre .q-low))
+
 pub sequence-quad-spec : {M : Type 1} → statement M
-sequence-quad-spec =
-    tie.close
-    (tie.spec
-    (λ c κs. search needs)
-    (λ c. omega (arith, mul-le-mul (c .before .pre .b-low) (c .before .pre .q-low)))
-    (λ c. search needs))
+sequence-quad-spec = tie.close (tie.spec (λ c κs. search needs) has-boot-quad (λ c. search needs))
