@@ -13,14 +13,27 @@ Inv-loop number count₀ rest₀ count rest = (count + widthOf rest ≡ widthOf 
 abbrev μ-loop : tie.MeasureT-loop
 μ-loop number count₀ rest₀ count rest = rest
 
+nothing-counted : tie.Need-loop-holds Inv-loop μ-loop
+nothing-counted c = (omega arith, omega arith)
+
+digit-counted : tie.Need-loop-again Inv-loop μ-loop
+digit-counted c =
+    let at = c .before .loop in
+    (omega (arith, width-more (at .rest) (c .loop-test .taken), at .inv .0), omega arith)
+
+all-counted : tie.Need-returns Inv-loop μ-loop
+all-counted c =
+    let at = c .before .loop in
+    omega (arith, width-one (at .rest) (c .loop-test .left), at .inv .0)
+
 pub width-spec : {M : Type 1} → statement M
 width-spec =
     tie.close
     (tie.spec
     Inv-loop
     μ-loop
-    (λ c. (omega arith, omega arith))
+    nothing-counted
     (λ c. omega arith)
     (λ c. omega arith)
-    (λ c. (omega (arith, width-more (c .before .loop .rest) (c .loop-test .taken), c .before .loop .inv .0), omega arith))
-    (λ c. omega (arith, width-one (c .before .loop .rest) (c .loop-test .left), c .before .loop .inv .0)))
+    digit-counted
+    all-counted)
