@@ -5,6 +5,7 @@ use Prim.Native.Nat.{ℕ, zero, suc, _-_, _≤_}
 use native.Mathlib.Decide.{decLe}
 use native.Mathlib.Numerals.{add-one}
 use native.Mathlib.Omega.{arith}
+use borrow.Author.Needs.{needs}
 use borrow.Author.Tests.{not-true, not-false}
 use Rattle.device.specs.declared.record.Device.{Device}
 use Rattle.common_declines.specs.Possible.{rowsFit, implementedOf}
@@ -31,25 +32,28 @@ Inv-loop d number₀ number = (number ≤ 11) × (rowsFit d number ≡ true)
 abbrev μ-loop : tie.MeasureT-loop
 μ-loop d number₀ number = 11 - number
 
-returns : tie.Need-returns Inv-loop μ-loop
-unfolding implementedOf
-returns c =
-    let l = c .before .before .before .before .loop in
-    let fails =
-    row _ (l .number) _ _ (c .before .before .register .ensures) (sym (not-true _ (c .if1 .taken)) ∙ c .before .is-within .ensures) (l .inv .1) in
-    sym (stays _ (suc (l .number)) 11 (omega arith) fails)
+no-row : tie.Need-loop-holds Inv-loop μ-loop
+no-row c = (omega arith, refl)
 
-loop-again : tie.Need-loop-again Inv-loop μ-loop
-loop-again c =
-    let l = c .before .before .before .before .loop in (
-      omega arith,
-      rw add-one
-          (row _ (l .number) _ _ (c .before .before .register .ensures) (sym (not-false _ (c .if1 .left)) ∙ c .before .is-within .ensures) (l .inv .1)),
-    )
+-- the row that is tested fits as is_within says
+tested : (c : tie.After-is-within Inv-loop μ-loop) → let at = c .before .before .before .loop in
+    rowsFit (c .before .before .before .before .args .d) (suc (at .number)) ≡ c .is-within .result
+tested c =
+    let at = c .before .before .before .loop in
+    row _ (at .number) _ _ (c .before .register .ensures) (c .is-within .ensures) (at .inv .1)
 
-returns-2 : tie.Need-returns-2 Inv-loop μ-loop
+row-fails : tie.Need-returns Inv-loop μ-loop
 unfolding implementedOf
-returns-2 c = let e : c .before .loop .number ≡ 11 = omega arith in sym (rw e at (c .before .loop .inv .1))
+row-fails c =
+    let at = c .before .before .before .before .loop in
+    sym (stays _ (suc (at .number)) 11 (omega arith) (tested (c .before) ∙ not-true _ (c .if1 .taken)))
+
+row-fits : tie.Need-loop-again Inv-loop μ-loop
+row-fits c = (omega arith, rw add-one (tested (c .before) ∙ not-false _ (c .if1 .left)))
+
+all-fit : tie.Need-returns-2 Inv-loop μ-loop
+unfolding implementedOf
+all-fit c = let e : c .before .loop .number ≡ 11 = omega arith in sym (rw e at (c .before .loop .inv .1))
 
 pub is-implemented-spec : {M : Type 1} → statement M
 is-implemented-spec =
@@ -57,11 +61,11 @@ is-implemented-spec =
     (tie.spec
     Inv-loop
     μ-loop
-    (λ c. (omega arith, refl))
-    (λ c κs. tt)
+    no-row
+    (λ c κs. search needs)
     (λ c κs. omega arith)
-    returns
+    row-fails
     (λ c. omega arith)
     (λ c. omega arith)
-    loop-again
-    returns-2)
+    row-fits
+    all-fit)
