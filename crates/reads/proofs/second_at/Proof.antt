@@ -3,6 +3,9 @@ use borrow.Author.Needs.{needs}
 use Rattle.reads.proofs.second_at.Statement.{statement}
 use Rattle.reads.proofs.second_at.Tie as tie
 
+bank-by-swaps : tie.Need-returns
+bank-by-swaps c = rw (c .in-second .ensures, c .before .has2 .ensures, c .before .before .has .ensures)
+
 pub second-at-spec : {M : Type 1} → statement M
 second-at-spec =
     tie.close
@@ -10,8 +13,4 @@ second-at-spec =
     (λ c κs. search needs)
     (λ c κs. search needs)
     (λ c κs. search needs)
-    (λ c. rw (
-      c .in-second .ensures,
-      c .before .has2 .ensures,
-      c .before .before .has .ensures,
-    )))
+    bank-by-swaps)
