@@ -6,8 +6,17 @@ use Rattle.lanes_interleave.proofs.InterleaveLaws.{four-of-two}
 use Rattle.lanes_interleave.proofs.interleave.interleave_four.Statement.{statement}
 use Rattle.lanes_interleave.proofs.interleave.interleave_four.Tie as tie
 
-returns : tie.Need-returns
-returns c =
+even-length : tie.Need-slice-aggregate-interleave-two-3
+even-length c = simp length-take (omega arith)
+
+odd-length : tie.Need-slice-aggregate-interleave-two-4
+odd-length c = simp length-take (omega arith)
+
+both-fit : tie.Need-interleave-two-requires-3
+both-fit c κs = simp length-take (omega arith)
+
+all-by-turns : tie.Need-returns
+all-by-turns c =
     let both = c .before .before in
     let odds = both .before .before .before .before .before in
     let evens = odds .before .before .before in
@@ -31,9 +40,9 @@ interleave-four-spec =
     (λ c κs. omega arith)
     (λ c. omega arith)
     (λ c. omega arith)
-    (λ c. simp length-take (omega arith))
+    even-length
     (λ c. omega arith)
-    (λ c. simp length-take (omega arith))
-    (λ c κs. simp length-take (omega arith))
+    odd-length
+    both-fit
     (λ c. search needs)
-    returns)
+    all-by-turns)
