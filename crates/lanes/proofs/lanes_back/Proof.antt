@@ -2,9 +2,12 @@
 use Prim.Native.Nat.{_*_, _-_, _/_, _≤_}
 use borrow.Author.Needs.{needs}
 use lib.ListN.{length}
-use mathlib.Core.Path.{_∙_, _≡_, sym}
+use mathlib.Core.Path.{_≡_}
+use mathlib.Core.Bool.{true}
 use native.Mathlib.Omega.{arith}
+use Rattle.words.specs.Decline.{acceptedOf}
 use Rattle.words.proofs.DeclineLaws.{stopped, went-on}
+use Rattle.lanes.specs.Lanes.{lanesDeclineOf}
 use Rattle.lanes.proofs.MoveLaws.{MovedBack, back-further, back-ends}
 use Rattle.lanes.proofs.DeclineLaws.{accepted-lengths}
 use Rattle.lanes.proofs.lanes_back.Statement.{statement}
@@ -17,31 +20,40 @@ Inv-loop source target₀ decline n i₀ target i =
 abbrev μ-loop : tie.MeasureT-loop
 μ-loop source target₀ decline n i₀ target i = n - i
 
-returns : tie.Need-returns Inv-loop μ-loop
-returns c = let e = c .before .before .lanes-decline .ensures in (e, rw (stopped e (c .before .is-accepted .ensures) (c .if1 .taken)))
+declined : tie.Need-returns Inv-loop μ-loop
+declined c = let e = c .before .before .lanes-decline .ensures in (e, rw (stopped e (c .before .is-accepted .ensures) (c .if1 .taken)))
 
-loop-holds : tie.Need-loop-holds Inv-loop μ-loop
-loop-holds c =
-    let (whole, same) = accepted-lengths _ _ (went-on (c .before .before .lanes-decline .ensures) (c .before .is-accepted .ensures) (c .if1 .left)) in
+-- ---- from here on the call is accepted
+abbrev start : tie.Else1 Inv-loop μ-loop → tie.Start Inv-loop μ-loop
+start c = c .before .before .before .before .before
+
+accepted : (c : tie.Else1 Inv-loop μ-loop) → let a = start c .args in
+    acceptedOf (lanesDeclineOf (length (a .source .now)) (length (a .target .now))) ≡ true
+accepted c = went-on (c .before .before .lanes-decline .ensures) (c .before .is-accepted .ensures) (c .if1 .left)
+
+no-word : tie.Need-loop-holds Inv-loop μ-loop
+no-word c =
+    let (whole, same) = accepted-lengths _ _ (accepted c) in
     (omega arith, whole, same, same, λ k j hk hj. absurd (omega arith))
 
-loop-again : tie.Need-loop-again Inv-loop μ-loop
-loop-again c =
+block-moved : tie.Need-loop-again Inv-loop μ-loop
+block-moved c =
     let block = c .before .before in
-    let at = block .before .before .before .before .loop in
+    let round = block .before .before .before in
+    let at = round .before .loop in
     let (within, whole, same, kept, moved) = at .inv in
-    let source = block .before .before .before .before .before .before .before .before .before .before .args .source .now in
+    let source = start (round .before .before) .args .source .now in
     let further = back-further source (at .target) (block .words-back .last .1 .0) _ (at .i) _ (block .words-back .ensures) moved in
     (omega arith, whole, same, omega arith, further)
 
-returns-2 : tie.Need-returns-2 Inv-loop μ-loop
-returns-2 c =
-    let e = c .before .before .before .before .lanes-decline .ensures in
+all-moved : tie.Need-returns-2 Inv-loop μ-loop
+all-moved c =
+    let entry = c .before .before in
     let at = c .before .loop in
     let (within, whole, same, kept, moved) = at .inv in
-    let source = c .before .before .before .before .before .before .before .args .source .now in
+    let source = start entry .args .source .now in
     let last : at .i ≡ length source / 4 = omega arith in
-    (e, rw (went-on e (c .before .before .before .is-accepted .ensures) (c .before .before .if1 .left)) (back-ends source (at .target) kept (rw last at moved)))
+    (entry .before .before .lanes-decline .ensures, rw (accepted entry) (back-ends source (at .target) kept (rw last at moved)))
 
 pub lanes-back-spec : {M : Type 1} → statement M
 lanes-back-spec =
@@ -51,11 +63,11 @@ lanes-back-spec =
     μ-loop
     (λ c κs. search needs)
     (λ c κs. search needs)
-    returns
-    loop-holds
+    declined
+    no-word
     (λ c κs. omega arith)
     (λ c κs. omega arith)
     (λ c. omega arith)
-    loop-again
-    (λ c. let (within, whole, same, kept, moved) = c .before .loop .inv in kept ∙ sym same)
-    returns-2)
+    block-moved
+    (λ c. omega arith)
+    all-moved)

@@ -2,9 +2,12 @@
 use Prim.Native.Nat.{_*_, _-_, _/_, _≤_}
 use borrow.Author.Needs.{needs}
 use lib.ListN.{length, length-set}
-use mathlib.Core.Path.{_∙_, _≡_, sym}
+use mathlib.Core.Path.{_≡_}
+use mathlib.Core.Bool.{true}
 use native.Mathlib.Omega.{arith}
+use Rattle.words.specs.Decline.{acceptedOf}
 use Rattle.words.proofs.DeclineLaws.{stopped, went-on}
+use Rattle.lanes.specs.Lanes.{lanesDeclineOf}
 use Rattle.lanes.proofs.MoveLaws.{MovedOut, out-next, out-ends}
 use Rattle.lanes.proofs.DeclineLaws.{accepted-lengths}
 use Rattle.lanes.proofs.lanes_out.Statement.{statement}
@@ -17,29 +20,47 @@ Inv-loop source target₀ decline n i₀ target i =
 abbrev μ-loop : tie.MeasureT-loop
 μ-loop source target₀ decline n i₀ target i = n - i
 
-returns : tie.Need-returns Inv-loop μ-loop
-returns c = let e = c .before .before .lanes-decline .ensures in (e, rw (stopped e (c .before .is-accepted .ensures) (c .if1 .taken)))
+declined : tie.Need-returns Inv-loop μ-loop
+declined c = let e = c .before .before .lanes-decline .ensures in (e, rw (stopped e (c .before .is-accepted .ensures) (c .if1 .taken)))
 
-loop-holds : tie.Need-loop-holds Inv-loop μ-loop
-loop-holds c =
-    let (whole, same) = accepted-lengths _ _ (went-on (c .before .before .lanes-decline .ensures) (c .before .is-accepted .ensures) (c .if1 .left)) in
+-- ---- from here on the call is accepted
+abbrev start : tie.Else1 Inv-loop μ-loop → tie.Start Inv-loop μ-loop
+start c = c .before .before .before .before .before
+
+accepted : (c : tie.Else1 Inv-loop μ-loop) → let a = start c .args in
+    acceptedOf (lanesDeclineOf (length (a .source .now)) (length (a .target .now))) ≡ true
+accepted c = went-on (c .before .before .lanes-decline .ensures) (c .before .is-accepted .ensures) (c .if1 .left)
+
+no-word : tie.Need-loop-holds Inv-loop μ-loop
+no-word c =
+    let (whole, same) = accepted-lengths _ _ (accepted c) in
     (omega arith, whole, same, same, λ k j hk hj. absurd (omega arith))
 
-loop-again : tie.Need-loop-again Inv-loop μ-loop
-loop-again c =
-    let at = c .before .before .before .before .before .loop in
-    let (within, whole, same, kept, moved) = at .inv in
-    let source = c .before .before .before .before .before .before .before .before .before .before .before .args .source .now in
-    (omega arith, whole, same, simp length-set kept, out-next source (at .target) _ (at .i) kept (c .before .before .before .before .loop-test .taken) moved)
+second-in-target : tie.Need-slice-write-target-2 Inv-loop μ-loop
+second-in-target c = simp length-set (omega arith)
 
-returns-2 : tie.Need-returns-2 Inv-loop μ-loop
-returns-2 c =
-    let e = c .before .before .before .before .lanes-decline .ensures in
+third-in-target : tie.Need-slice-write-target-3 Inv-loop μ-loop
+third-in-target c = simp length-set (omega arith)
+
+fourth-in-target : tie.Need-slice-write-target-4 Inv-loop μ-loop
+fourth-in-target c = simp length-set (omega arith)
+
+word-moved : tie.Need-loop-again Inv-loop μ-loop
+word-moved c =
+    let round = c .before .before .before .before in
+    let at = round .before .loop in
+    let (within, whole, same, kept, moved) = at .inv in
+    let source = start (round .before .before) .args .source .now in
+    (omega arith, whole, same, simp length-set kept, out-next source (at .target) _ (at .i) kept (round .loop-test .taken) moved)
+
+all-moved : tie.Need-returns-2 Inv-loop μ-loop
+all-moved c =
+    let entry = c .before .before in
     let at = c .before .loop in
     let (within, whole, same, kept, moved) = at .inv in
-    let source = c .before .before .before .before .before .before .before .args .source .now in
+    let source = start entry .args .source .now in
     let last : at .i ≡ length source / 4 = omega arith in
-    (e, rw (went-on e (c .before .before .before .is-accepted .ensures) (c .before .before .if1 .left)) (out-ends source (at .target) kept (rw last at moved)))
+    (entry .before .before .lanes-decline .ensures, rw (accepted entry) (out-ends source (at .target) kept (rw last at moved)))
 
 pub lanes-out-spec : {M : Type 1} → statement M
 lanes-out-spec =
@@ -49,27 +70,27 @@ lanes-out-spec =
     μ-loop
     (λ c κs. search needs)
     (λ c κs. search needs)
-    returns
-    loop-holds
+    declined
+    no-word
     (λ c. omega arith)
     (λ c. omega arith)
     (λ c. omega arith)
     (λ c. omega arith)
     (λ c. omega arith)
     (λ c. omega arith)
-    (λ c. simp length-set (omega arith))
+    second-in-target
     (λ c. omega arith)
     (λ c. omega arith)
     (λ c. omega arith)
     (λ c. omega arith)
-    (λ c. simp length-set (omega arith))
+    third-in-target
     (λ c. omega arith)
     (λ c. omega arith)
     (λ c. omega arith)
     (λ c. omega arith)
-    (λ c. simp length-set (omega arith))
+    fourth-in-target
     (λ c. omega arith)
     (λ c. omega arith)
-    loop-again
-    (λ c. let (within, whole, same, kept, moved) = c .before .loop .inv in kept ∙ sym same)
-    returns-2)
+    word-moved
+    (λ c. omega arith)
+    all-moved)
