@@ -6,6 +6,12 @@ use Rattle.sheet_line.proofs.PutLaws.{put-line}
 use Rattle.sheet_line.proofs.put_line.Statement.{statement}
 use Rattle.sheet_line.proofs.put_line.Tie as tie
 
+bank-fits : tie.Need-put-right-column-requires
+bank-fits c κs = (rw (c .bank-number .ensures) (bank-width (c .before .before .before .args .s .second)), omega arith)
+
+page-fits : tie.Need-put-right-column-requires-2
+page-fits c κs = (page-width _ (omega arith), omega arith)
+
 protection-fits : tie.Need-put-right-column-requires-3
 protection-fits c κs =
     let fourth = c .before .before .before .before in
@@ -15,9 +21,12 @@ protection-fits c κs =
     let start = first .before .before .before .before in
     (flag-fits (start .args .s .protected), omega arith)
 
+quads-fit : tie.Need-put-right-column-requires-4
+quads-fit c κs = (quads-width _ (omega arith), omega arith)
+
 -- the columns from the last to the first, and the start
-returns : tie.Need-returns
-returns c =
+line-put : tie.Need-returns
+line-put c =
     let sixth = c .before .before in
     let fifth = sixth .before .before .before .before in
     let fourth = fifth .before .before .before .before .before in
@@ -43,12 +52,12 @@ put-line-spec =
     tie.close
     (tie.spec
     (λ c κs. search needs)
-    (λ c κs. (rw (c .bank-number .ensures) (bank-width (c .before .before .before .args .s .second)), omega arith))
+    bank-fits
     (λ c. search needs)
     (λ c κs. search needs)
     (λ c κs. search needs)
     (λ c. search needs)
-    (λ c κs. (page-width _ (omega arith), omega arith))
+    page-fits
     (λ c. search needs)
     (λ c κs. search needs)
     (λ c κs. search needs)
@@ -56,6 +65,6 @@ put-line-spec =
     (λ c. search needs)
     protection-fits
     (λ c. search needs)
-    (λ c κs. (quads-width _ (omega arith), omega arith))
+    quads-fit
     (λ c. search needs)
-    returns)
+    line-put)

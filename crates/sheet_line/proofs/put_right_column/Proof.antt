@@ -4,6 +4,13 @@ use Rattle.sheet_line.proofs.PutLaws.{put-right-column}
 use Rattle.sheet_line.proofs.put_right_column.Statement.{statement}
 use Rattle.sheet_line.proofs.put_right_column.Tie as tie
 
+both-put : tie.Need-returns
+both-put c =
+    let number = c .before .before in
+    let start = number .before .before .before in
+    let a = start .args in
+    rw (number .put-right .ensures) (put-right-column (a .out .now) (a .at) (a .columns) (a .number) (a .end) (start .pre .0))
+
 pub put-right-column-spec : {M : Type 1} → statement M
 put-right-column-spec =
     tie.close
@@ -12,7 +19,4 @@ put-right-column-spec =
     (λ c. search needs)
     (λ c. search needs)
     (λ c. search needs)
-    (λ c.
-    let start = c .before .before .before .before .before in
-    let a = start .args in
-    rw (c .before .before .put-right .ensures) (put-right-column (a .out .now) (a .at) (a .columns) (a .number) (a .end) (start .pre .0))))
+    both-put)
