@@ -15,15 +15,36 @@ use Rattle.sheet.proofs.PutLaws.{put-sheet}
 use Rattle.sheet.proofs.page_sheet.Statement.{statement}
 use Rattle.sheet.proofs.page_sheet.Tie as tie
 
-accepted : (c : tie.Else1) → let a = c .before .before .before .before .before .before .args in
+declined : tie.Need-returns
+unfolding pageSheetOf
+declined c = rw (← c .before .before .page-sheet-decline .ensures, sym (c .before .is-accepted .ensures) ∙ not-true _ (c .if1 .taken))
+
+-- ---- from here on the request is accepted
+abbrev start : tie.Else1 → tie.Start
+start c = c .before .before .before .before .before .before
+
+accepted : (c : tie.Else1) → let a = start c .args in
     acceptedOf (pageSheetDeclineOf (a .g) (a .d) (length (a .one .now)) (length (a .two .now)) (length (a .out .now))) ≡ true
 accepted c = went-on (c .before .before .page-sheet-decline .ensures) (c .before .is-accepted .ensures) (c .if1 .left)
 
-fits : (c : tie.Else1) → let a = c .before .before .before .before .before .before .args in
-    Holds (a .g) (length (a .one .now)) (length (a .two .now)) (length (a .out .now))
+fits : (c : tie.Else1) → let a = start c .args in Holds (a .g) (length (a .one .now)) (length (a .two .now)) (length (a .out .now))
 fits c =
-    let a = c .before .before .before .before .before .before .args in
+    let a = start c .args in
     holds (a .g) (a .d) (length (a .one .now)) (length (a .two .now)) (length (a .out .now)) (accepted c)
+
+in-range : tie.Need-pages-requires
+in-range c κs = fits c .range
+
+bank-1-fits : tie.Need-put-bank-requires
+bank-1-fits c κs =
+    let ok = fits (c .before .before) in
+    (ok .range, (ok .first, omega (arith, ok .room)))
+
+bank-2-fits : tie.Need-put-bank-requires-2
+bank-2-fits c κs =
+    let pages = c .before .before .before .before .before in
+    let ok = fits (pages .before) in
+    (ok .range, (omega (arith, ok .first, ok .other), omega (arith, ok .room, pages .pages .ensures)))
 
 -- bank 1's lines, then bank 2's: the sheet
 sheet-written : tie.Need-returns-2
@@ -31,7 +52,7 @@ unfolding pageSheetOf
 sheet-written c =
     let first = c .before .before .before .before .before .before in
     let pages = first .before .before in
-    let a = pages .before .before .before .before .before .before .before .args in
+    let a = start (pages .before) .args in
     let ok = fits (pages .before) in
     let bytes : 2 * (17 * pagesOf (a .g)) ≡ sheetBytesOf (a .g) = omega arith in
     rw (
@@ -44,21 +65,17 @@ sheet-written c =
     )
 
 pub page-sheet-spec : {M : Type 1} → statement M
-unfolding pageSheetOf
 page-sheet-spec =
     tie.close
     (tie.spec
     (λ c κs. search needs)
     (λ c κs. search needs)
-    (λ c. rw (← c .before .before .page-sheet-decline .ensures, sym (c .before .is-accepted .ensures) ∙ not-true _ (c .if1 .taken)))
-    (λ c κs. fits c .range)
+    declined
+    in-range
     (λ c. search needs)
     (λ c. search needs)
-    (λ c κs. let ok = fits (c .before .before) in (ok .range, (ok .first, omega (arith, ok .room))))
-    (λ c κs.
-    let pages = c .before .before .before .before .before in
-    let ok = fits (pages .before) in
-    (ok .range, (omega (arith, ok .first, ok .other), omega (arith, ok .room, pages .pages .ensures))))
+    bank-1-fits
+    bank-2-fits
     (λ c. search needs)
     (λ c. search needs)
     sheet-written)
