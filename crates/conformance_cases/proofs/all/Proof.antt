@@ -1,23 +1,21 @@
 -- The first that is false decides.
 use borrow.Author.Tests.{not-true, not-false}
 use mathlib.Core.Path.{_≡_}
-use mathlib.Core.Bool.{Bool, true, false, not, _&&_}
+use mathlib.Core.Bool.{true}
 use Rattle.conformance_cases.proofs.all.Statement.{statement}
 use Rattle.conformance_cases.proofs.all.Tie as tie
 
-first-fails : (a b c : Bool) → not a ≡ true → false ≡ (a && (b && c))
-first-fails a b c h = rw (not-true a h)
+first-fails : tie.Need-returns
+first-fails c = rw (not-true (c .before .args .first) (c .if1 .taken))
 
-second-fails : (a b c : Bool) → not a ≡ false → not b ≡ true → false ≡ (a && (b && c))
-second-fails a b c g h = rw (not-false a g, not-true b h)
+first-holds : (c : tie.Else1) → c .before .args .first ≡ true
+first-holds c = not-false _ (c .if1 .left)
 
-third-decides : (a b c : Bool) → not a ≡ false → not b ≡ false → c ≡ (a && (b && c))
-third-decides a b c g h = rw (not-false a g, not-false b h)
+second-fails : tie.Need-returns-2
+second-fails c = rw (first-holds (c .before), not-true (c .before .before .args .second) (c .if2 .taken))
+
+third-decides : tie.Need-returns-3
+third-decides c = rw (first-holds (c .before), not-false (c .before .before .args .second) (c .if2 .left))
 
 pub all-spec : {M : Type 1} → statement M
-all-spec =
-    tie.close
-    (tie.spec
-    (λ c. let a = c .before .args in first-fails (a .first) (a .second) (a .third) (c .if1 .taken))
-    (λ c. let a = c .before .before .args in second-fails (a .first) (a .second) (a .third) (c .before .if1 .left) (c .if2 .taken))
-    (λ c. let a = c .before .before .args in third-decides (a .first) (a .second) (a .third) (c .before .if1 .left) (c .if2 .left)))
+all-spec = tie.close (tie.spec first-fails second-fails third-decides)
