@@ -13,6 +13,9 @@ Inv-loop from to₀ i₀ to i = (i ≤ length to) × (length to ≡ length to₀
 abbrev μ-loop : tie.MeasureT-loop
 μ-loop from to₀ i₀ to i = length to₀ - i
 
+word-copied : tie.Need-loop-again Inv-loop μ-loop
+word-copied c = simp length-set (omega arith)
+
 pub copy-spec : {M : Type 1} → statement M
 copy-spec =
     tie.close
@@ -28,6 +31,6 @@ copy-spec =
     (λ c. search needs)
     (λ c. search needs)
     (λ c. search needs)
-    (λ c. simp length-set (omega arith))
+    word-copied
     (λ c. search needs)
     (λ c. search needs))

@@ -13,6 +13,9 @@ Inv-loop words₀ seed i₀ words i = (i ≤ length words) × (length words ≡ 
 abbrev μ-loop : tie.MeasureT-loop
 μ-loop words₀ seed i₀ words i = length words₀ - i
 
+word-filled : tie.Need-loop-again Inv-loop μ-loop
+word-filled c = simp length-set (omega arith)
+
 pub fill-spec : {M : Type 1} → statement M
 fill-spec =
     tie.close
@@ -25,6 +28,6 @@ fill-spec =
     (λ c. search needs)
     (λ c. search needs)
     (λ c. search needs)
-    (λ c. simp length-set (omega arith))
+    word-filled
     (λ c. search needs)
     (λ c. search needs))
