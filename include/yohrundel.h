@@ -177,7 +177,7 @@ typedef struct yohrundel_geometry {
     uint32_t q;
     /* B, boot pages per bank: 1 to 5. */
     uint32_t b;
-    /* P, program pages per bank: 1 to 64. */
+    /* P, program pages per bank: 1 to 128. */
     uint32_t p;
 } yohrundel_geometry;
 

@@ -24,7 +24,7 @@ use crate::random::Random;
 pub const DEFAULT_WORDS: u32 = 512;
 
 /// Words in the longest bank.
-pub const MOST_WORDS: u32 = 282_624;
+pub const MOST_WORDS: u32 = 544_768;
 
 /// Makes one case after another; banks have at most `max_words` words.
 pub struct Cases {

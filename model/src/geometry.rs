@@ -12,6 +12,9 @@ pub const ALL_ONES: u32 = 0xFFFF_FFFF;
 /// "at most 16,384 words".
 pub const SRAM_LIMIT: usize = 16_384;
 
+/// W-211: "P goes from 64 to 128, in decline 1 as well."
+pub const MOST_PROGRAM_PAGES: u32 = 128;
+
 pub const ROW_QUADS: [u32; 8] = [1, 2, 4, 8, 16, 32, 64, 128];
 
 #[derive(Clone, Copy, Debug, PartialEq, Eq)]
@@ -70,7 +73,9 @@ impl Geometry {
     pub fn new(numbers: [u32; 3]) -> Answer<Geometry> {
         let [row_quads, boot_pages, program_pages] = numbers;
         let listed = ROW_QUADS.contains(&row_quads);
-        if !listed || !(1..=5).contains(&boot_pages) || !(1..=64).contains(&program_pages) {
+        let pages =
+            (1..=5).contains(&boot_pages) && (1..=MOST_PROGRAM_PAGES).contains(&program_pages);
+        if !listed || !pages {
             return Err(Refusal::Geometry);
         }
         Ok(Geometry {

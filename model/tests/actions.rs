@@ -95,6 +95,8 @@ fn action_by_place() {
         [2, 2, 2],
         [4, 3, 7],
         [8, 1, 64],
+        [1, 1, 65],
+        [2, 5, 128],
         [128, 2, 1],
     ] {
         let geometry = Geometry::new(numbers).unwrap();

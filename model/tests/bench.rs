@@ -40,6 +40,7 @@ fn comparison() {
 fn totals() {
     assert_eq!(total(&geometry([1, 1, 1])), 252);
     assert_eq!(total(&geometry([128, 5, 64])), 989_748);
+    assert_eq!(total(&geometry([128, 5, 128])), 1_907_764);
 }
 
 #[test]

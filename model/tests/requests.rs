@@ -89,7 +89,9 @@ fn a_buffer_shorter_than_the_sheet() {
 #[test]
 fn widths() {
     for row_quads in ROW_QUADS {
-        for (boot_pages, program_pages) in [(1, 1), (5, 9), (2, 10), (4, 11), (5, 64)] {
+        for (boot_pages, program_pages) in
+            [(1, 1), (5, 9), (2, 10), (4, 11), (5, 64), (5, 95), (5, 128)]
+        {
             for fill in [0, ALL_ONES] {
                 every_line([row_quads, boot_pages, program_pages], fill);
             }

@@ -10,7 +10,7 @@ pub struct Geometry {
     pub q: u32,
     /// Boot pages per bank: 1 to 5.
     pub b: u32,
-    /// Program pages per bank: 1 to 64.
+    /// Program pages per bank: 1 to 128.
     pub p: u32,
 }
 

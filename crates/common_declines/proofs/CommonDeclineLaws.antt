@@ -9,7 +9,7 @@ use Rattle.geometry.specs.declared.banks.Geometry.{Geometry}
 use Rattle.words.specs.declared.decline.Decline.{Decline}
 use Rattle.geometry.specs.Banks.{inRangeOf, bankWordsOf}
 use Rattle.words.specs.Decline.{acceptedOf}
-use Rattle.geometry.specs.Lent.{bankLengths, lengthsFitOf, lentDeclineOf}
+use Rattle.geometry.specs.Lent.{bankLengths, lengthsFitOf, lentDeclineOf, lentDeclineUpTo}
 use Rattle.words.proofs.BitLaws.{true-not-false}
 use Rattle.geometry.proofs.LentLaws.{EachBank, Fits, fits}
 use Rattle.device.specs.declared.record.Device.{Device}
@@ -42,5 +42,5 @@ each-fits g (words ∷ rest) h = rw (eq-eqb words (bankWordsOf g) (h .0)) (each-
 
 pub opens : (g : Geometry) (d : Device) (lengths : List ℕ) (sram : ℕ) → inRangeOf g ≡ true → EachBank g lengths → sram ≤ 16384 → possibleOf g d ≡ true
     → commonDeclineOf g d lengths sram ≡ Decline.Accepted
-unfolding commonDeclineOf lentDeclineOf lengthsFitOf
+unfolding commonDeclineOf lentDeclineUpTo lengthsFitOf
 opens g d lengths sram listed banks room can = rw (listed, each-fits g lengths banks, le-leb sram 16384 room, can)

@@ -9,11 +9,11 @@ use conformance_io::output::flush;
 use conformance_io::output::put_answer;
 use conformance_lists::bytes::find;
 
-// The longest list that can be lent, in words. A bank has at most 282,624.
-const LONGEST_LIST: usize = 300000;
+// The longest list that can be lent, in words: a page more than the largest bank.
+const LONGEST_LIST: usize = 548864;
 
-// The spare buffer has room for two lists.
-const SPARE: usize = 600000;
+// The spare buffer has room for the longest list and, after it, for an SRAM that is too long.
+const SPARE: usize = 570000;
 
 const OUTPUT: usize = 8192;
 

@@ -29,7 +29,7 @@ use Rattle.flash.specs.Effect.{Runs, regionSteps, stepAtOf, stepLocation
 
 module _ (g : Geometry) (ok : InRange g) where
   -- no operation has more steps than both regions
-  pub length-high : (op : ℕ) → lengthOf g op ≤ 2 ^ 17
+  pub length-high : (op : ℕ) → lengthOf g op ≤ 2 ^ 18
   unfolding lengthOf
   length-high op =
       small (eqb op 2) (omega arith)
@@ -37,8 +37,8 @@ module _ (g : Geometry) (ok : InRange g) where
       (small (eqb op 4) (omega (arith, ok .q-high))
       (small (eqb op 7) (omega (arith, ok .program-high)) (omega (arith, ok .program-high)))))
     where
-      small : (t : Bool) {x y : ℕ} → x ≤ 2 ^ 17 → y ≤ 2 ^ 17 → pick t x y ≤ 2 ^ 17
-      small = pick-both (λ (n : ℕ). n ≤ 2 ^ 17)
+      small : (t : Bool) {x y : ℕ} → x ≤ 2 ^ 18 → y ≤ 2 ^ 18 → pick t x y ≤ 2 ^ 18
+      small = pick-both (λ (n : ℕ). n ≤ 2 ^ 18)
 
   pub begins-inside : (pwp : ℕ) (l : Location) → targetBeginsOf g pwp l ≡ true → l .inside ≡ true
   unfolding targetBeginsOf
@@ -109,7 +109,7 @@ module _ (g : Geometry) (ok : InRange g) where
 
 -- ---- of a device whose operation runs
 module _ (g : Geometry) (d : Device) (runs : Runs g d) where
-  pub steps-high : d .step < 2 ^ 17
+  pub steps-high : d .step < 2 ^ 18
   steps-high = omega (arith, runs .below, length-high g (runs .range) (opOf d))
 
   pub runs-room : stepLocationOf g d .offset + 16 ≤ windowBytesOf g (stepLocationOf g d .program)
@@ -119,7 +119,7 @@ module _ (g : Geometry) (d : Device) (runs : Runs g d) where
   pub runs-in-bank : 4 * quadIndexOf g (stepLocationOf g d) + 4 ≤ bankWordsOf g
   runs-in-bank = quad-in-bank g (runs .range) (stepLocationOf g d) (omega (arith, runs-room))
 
-  window-high : (program : Bool) → windowBytesOf g program ≤ 2 ^ 20
+  window-high : (program : Bool) → windowBytesOf g program ≤ 2 ^ 21
   window-high true = omega (arith, runs .range .program-high)
   window-high false = omega (arith, runs .range .boot-high)
 

@@ -11,7 +11,7 @@ use Rattle.words.proofs.BitLaws.{true-not-false}
 use Rattle.geometry.specs.declared.banks.Geometry.{Geometry}
 use Rattle.geometry.specs.Banks.{inRangeOf, InRange, bankWordsOf}
 use Rattle.words.specs.Decline.{acceptedOf}
-use Rattle.geometry.specs.Lent.{bankLengths, lengthsFitOf, lentDeclineOf}
+use Rattle.geometry.specs.Lent.{bankLengths, lengthsFitOf, lentDeclineOf, lentDeclineUpTo}
 use Rattle.geometry.proofs.SizeLaws.{in-range}
 
 -- each length is that of a bank
@@ -32,7 +32,7 @@ each-bank g (words ∷ rest) h =
     (eqb-true _ _ (s .0), each-bank g rest (s .1))
 
 pub fits : (g : Geometry) (lengths : List ℕ) (sram : ℕ) → acceptedOf (lentDeclineOf g lengths sram) ≡ true → Fits g lengths sram
-unfolding lentDeclineOf lengthsFitOf
+unfolding lentDeclineUpTo lengthsFitOf
 fits g lengths sram h =
     let (listed, fit) = go (inRangeOf g) refl (bankLengths g lengths && leb sram 16384) refl h in
     let each = and-both (bankLengths g lengths) (leb sram 16384) fit in

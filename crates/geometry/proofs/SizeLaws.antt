@@ -10,7 +10,7 @@ use lib.Dec.{eqb, leb}
 use borrow.Author.Tests.{leb-true, eqb-true}
 use Rattle.words.proofs.PickLaws.{and-both}
 use Rattle.geometry.specs.declared.banks.Geometry.{Geometry}
-use Rattle.geometry.specs.Banks.{oneOf, rowSizes, listedOf, mostBootPages, mostProgramPages, inRangeOf, InRange}
+use Rattle.geometry.specs.Banks.{oneOf, rowSizes, listedOf, mostBootPages, mostProgramPages, inRangeOf, InRange, inRangeUpTo}
 use Rattle.geometry.specs.Banks.{pagesOf, rowBytesOf, pageBytesOf, pageWordsOf, bankWordsOf, roundDownOf}
 
 -- a test that holds of each number of a list holds of any number that is one of them
@@ -37,7 +37,7 @@ listed-rule q h = one-of rule rowSizes q refl h
 
 -- what decline 1 leaves
 pub in-range : (g : Geometry) → inRangeOf g ≡ true → InRange g
-unfolding inRangeOf rule
+unfolding inRangeUpTo rule
 in-range g h =
     let s0 = and-both (listedOf (g .q)) (leb 1 (g .b) && (leb (g .b) mostBootPages && (leb 1 (g .p) && leb (g .p) mostProgramPages))) h in
     let s1 = and-both (leb 1 (g .b)) (leb (g .b) mostBootPages && (leb 1 (g .p) && leb (g .p) mostProgramPages)) (s0 .1) in

@@ -18,18 +18,21 @@ rowSizes = 1 ∷ 2 ∷ 4 ∷ 8 ∷ 16 ∷ 32 ∷ 64 ∷ 128 ∷ []
 unfoldable pub listedOf : ℕ → Bool
 listedOf q = oneOf rowSizes q
 
--- "B boot pages (1 to 5)", "P program pages (1 to 64)"
+-- "B boot pages (1 to 5)", "P program pages (1 to 64)"; W-211: "P goes from 64 to 128"
 abbrev pub mostBootPages : ℕ
 mostBootPages = 5
 
 abbrev pub mostProgramPages : ℕ
-mostProgramPages = 64
+mostProgramPages = 128
 
--- decline 1 does not apply: "Q, B or P is outside its list or range."
-unfoldable pub inRangeOf : Geometry → Bool
-inRangeOf g =
+-- decline 1 does not apply where P is at most this: "Q, B or P is outside its list or range."
+unfoldable pub inRangeUpTo : ℕ → Geometry → Bool
+inRangeUpTo most g =
     listedOf (g .q)
-    && (leb 1 (g .b) && (leb (g .b) mostBootPages && (leb 1 (g .p) && leb (g .p) mostProgramPages)))
+    && (leb 1 (g .b) && (leb (g .b) mostBootPages && (leb 1 (g .p) && leb (g .p) most)))
+
+abbrev pub inRangeOf : Geometry → Bool
+inRangeOf g = inRangeUpTo mostProgramPages g
 
 -- the same as facts (`in-range` of proofs/SizeLaws): what the functions that need such a geometry ask for
 pub record InRange (g : Geometry) : Type 0 where

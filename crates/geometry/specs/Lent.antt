@@ -8,7 +8,7 @@ use Rattle.geometry.specs.declared.banks.Geometry.{Geometry}
 use Rattle.words.specs.declared.decline.Decline.{Decline}
 use Rattle.geometry.specs.declared.lent.Lent.{Lent}
 use Rattle.geometry.specs.declared.lent.Lent.the-variants.{Nothing, Bank, Banks, BanksAndImage}
-use Rattle.geometry.specs.Banks.{inRangeOf, bankWordsOf}
+use Rattle.geometry.specs.Banks.{mostProgramPages, inRangeUpTo, bankWordsOf}
 
 -- the lengths of the banks and the image that a call is lent
 abbrev pub lengthsOf : Lent → List ℕ
@@ -30,7 +30,10 @@ mostSram = 16384
 unfoldable pub lengthsFitOf : Geometry → List ℕ → ℕ → Bool
 lengthsFitOf g lengths sram = bankLengths g lengths && leb sram mostSram
 
--- declines 1 and 2, by the lengths of the banks and the image, and of the SRAM, which is 0 where none is lent
-unfoldable pub lentDeclineOf : Geometry → List ℕ → ℕ → Decline
-lentDeclineOf g lengths sram =
-    pick (inRangeOf g) (pick (lengthsFitOf g lengths sram) Decline.Accepted Decline.Length) Decline.Geometry
+-- declines 1 and 2 where P is at most `most`, by the lengths of the banks and the image, and of the SRAM, which is 0 where none is lent
+unfoldable pub lentDeclineUpTo : ℕ → Geometry → List ℕ → ℕ → Decline
+lentDeclineUpTo most g lengths sram =
+    pick (inRangeUpTo most g) (pick (lengthsFitOf g lengths sram) Decline.Accepted Decline.Length) Decline.Geometry
+
+abbrev pub lentDeclineOf : Geometry → List ℕ → ℕ → Decline
+lentDeclineOf g lengths sram = lentDeclineUpTo mostProgramPages g lengths sram

@@ -14,7 +14,7 @@ pub struct Geometry {
 
 pub const MOST_BOOT_PAGES: u32 = 5;
 
-pub const MOST_PROGRAM_PAGES: u32 = 64;
+pub const MOST_PROGRAM_PAGES: u32 = 128;
 
 // Whether Q is in its list.
 fn is_listed(q: u32) -> bool

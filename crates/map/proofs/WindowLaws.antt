@@ -42,20 +42,29 @@ module _ (g : Geometry) (program upper : Bool) (a : ℕ) where
   unfolding inWindowOf
   past lo hi = rw (le-leb _ _ lo, le-ltb _ _ hi)
 
-  stands-here : inWindowOf g program upper a .inside ≡ true → Stands g a (inWindowOf g program upper a)
+  -- what stands in the window stands there at its distance from the start
+  pub record Within : Type 0 where
+    pub address : a ≡ windowStartOf g program upper + (a - windowStartOf g program upper)
+    pub room : a - windowStartOf g program upper < windowBytesOf g program
+    pub here : inWindowOf g program upper a ≡ located program upper (a - windowStartOf g program upper)
+
+  pub within : inWindowOf g program upper a .inside ≡ true → Within
   unfolding inWindowOf
-  stands-here h = go (leb start a && ltb (a - start) (windowBytesOf g program)) refl h
+  within h = go (leb start a && ltb (a - start) (windowBytesOf g program)) refl h
     where
       start : ℕ
       start = windowStartOf g program upper
 
       go : (t : Bool) → (leb start a && ltb (a - start) (windowBytesOf g program)) ≡ t
-          → pick t (located program upper (a - start)) nowhere .inside ≡ true → Stands g a (pick t (located program upper (a - start)) nowhere)
+          → pick t (located program upper (a - start)) nowhere .inside ≡ true → Within
       go true e h =
           let s = and-both (leb start a) (ltb (a - start) (windowBytesOf g program)) e in
           let lo : start ≤ a = leb-true _ _ (s .0) in
-          record { address = omega arith; room = ltb-true _ _ (s .1) }
+          record { address = omega arith; room = ltb-true _ _ (s .1); here = rw e }
       go false e h = let z : _≡_ {A = ℕ} 0 1 = cc in absurd (omega arith)
+
+  stands-here : inWindowOf g program upper a .inside ≡ true → Stands g a (inWindowOf g program upper a)
+  stands-here h = let w = within h in rw (w .here) (record { address = w .address; room = w .room })
 
 -- ---- the four
 module _ (g : Geometry) (ok : InRange g) where

@@ -15,7 +15,7 @@ use Rattle.text.specs.Digits.{widthOf}
 use Rattle.text.proofs.BufferLaws.{front-whole}
 use Rattle.text.proofs.LineLaws.{length-four}
 use Rattle.words.specs.declared.decline.Decline.{Decline}
-use Rattle.geometry.specs.Banks.{listedOf, inRangeOf}
+use Rattle.geometry.specs.Banks.{listedOf, inRangeUpTo}
 use Rattle.words.specs.Decline.{acceptedOf}
 use Rattle.sequence.specs.Sequence.{complementOf, validOf}
 use Rattle.sequence.specs.Comparison.{compareOf}
@@ -45,7 +45,7 @@ played script buffer = playOf smallest [] startOf script buffer
 
 -- none of declines 1, 2 and 3 applies
 start-opens : commonDeclineOf smallest powerOn (length firstBank ∷ length erasedBank ∷ []) 0 ≡ Decline.Accepted
-unfolding inRangeOf listedOf
+unfolding inRangeUpTo listedOf
 start-opens =
     opens smallest powerOn (length firstBank ∷ length erasedBank ∷ []) 0 refl (refl, (refl, tt)) (omega arith)
     (controller .power-on smallest firstBank erasedBank refl refl .possible)

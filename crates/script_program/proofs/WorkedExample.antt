@@ -12,8 +12,8 @@ use Rattle.protection.specs.Protection.{programProtectedOf}
 use Rattle.device.specs.Record.{registerOf}
 use Rattle.flash.specs.Effect.{stepAtOf, blockedOf, effectAtOf, effectOf}
 use Rattle.flash.specs.Step.{stepDeclineOf, advanceOf, stepOf}
-use Rattle.geometry.specs.Banks.{listedOf, inRangeOf}
-use Rattle.geometry.specs.Lent.{lengthsFitOf, lentDeclineOf}
+use Rattle.geometry.specs.Banks.{listedOf, inRangeUpTo}
+use Rattle.geometry.specs.Lent.{lengthsFitOf, lentDeclineUpTo}
 use Rattle.map.specs.Windows.{inWindowOf, locateOf}
 use Rattle.text.specs.Digits.{digitOf, widthOf}
 use Rattle.text.specs.Lines.{lineOf}
@@ -25,6 +25,6 @@ use Rattle.script_program.specs.WorkedExample.{WorkedExample}
 pub worked-example : WorkedExample
 unfolding hasFormOf storeDeclineOf launchesOf conStoreOf appliedOf storeAcceptedOf storeOf keyNextOf conTakesOf launchOf unitOf
     targetOf targetBeginsOf beginsAtOf lengthOf implementedOf runningOf possibleOf programProtectedOf registerOf stepAtOf
-    blockedOf effectAtOf effectOf lengthsFitOf lentDeclineOf commonDeclineOf stepDeclineOf advanceOf stepOf listedOf inRangeOf inWindowOf locateOf digitOf
+    blockedOf effectAtOf effectOf lengthsFitOf lentDeclineUpTo commonDeclineOf stepDeclineOf advanceOf stepOf listedOf inRangeUpTo inWindowOf locateOf digitOf
     widthOf lineOf recordAfterOf printedOf valueOf recordOf isStoreOf isStepOf isRecordOf isScriptOf
 worked-example = record { worked = refl; empty = refl }

@@ -16,7 +16,7 @@ use Rattle.geometry.specs.declared.banks.Geometry.{Geometry}
 use Rattle.words.specs.declared.decline.Decline.{Decline}
 use Rattle.geometry.specs.Banks.{inRangeOf}
 use Rattle.words.specs.Decline.{numberOf, acceptedOf}
-use Rattle.geometry.specs.Lent.{lengthsFitOf, lentDeclineOf}
+use Rattle.geometry.specs.Lent.{lengthsFitOf, lentDeclineOf, lentDeclineUpTo}
 use Rattle.device.specs.declared.record.Device.{Device}
 use Rattle.device.specs.Record.{running}
 use Rattle.common_declines.specs.Possible.{possibleOf}
@@ -64,7 +64,7 @@ abbrev OneDigit : Decline → Type 0
 OneDigit d = numberOf d < 10
 
 common-decline-digit : (g : Geometry) (d : Device) (lengths : List ℕ) (sram : ℕ) → OneDigit (commonDeclineOf g d lengths sram)
-unfolding commonDeclineOf lentDeclineOf
+unfolding commonDeclineOf lentDeclineUpTo
 common-decline-digit g d lengths sram =
     pick-both OneDigit (acceptedOf (lentDeclineOf g lengths sram))
     (pick-both OneDigit (possibleOf g d) (omega arith) (omega arith))

@@ -7,7 +7,7 @@ use Prim.Native.Nat.{ℕ, zero, suc, _*_, _≤_, _<_}
 use native.Mathlib.Omega.{arith}
 use lib.ListN.{length, length-append}
 use Rattle.geometry.specs.declared.banks.Geometry.{Geometry}
-use Rattle.geometry.specs.Banks.{listedOf, inRangeOf, InRange, pagesOf, pageQuadsOf}
+use Rattle.geometry.specs.Banks.{listedOf, inRangeUpTo, InRange, pagesOf, pageQuadsOf}
 use Rattle.geometry.proofs.SizeLaws.{in-range}
 use Rattle.device.specs.declared.record.Device.{Device}
 use Rattle.sheet_page.specs.State.{usedQuadsOf, kindPagesOf, pageIndexOf, pageStateOf}
@@ -77,7 +77,7 @@ sheet-bytes g ok d one two = sheet-length g d one two (ok .q-high) (kind-few g o
 
 -- a Q of the list, with one page of each kind, is in range
 listed-high : (q : ℕ) → listedOf q ≡ true → q ≤ 128
-unfolding inRangeOf
+unfolding inRangeUpTo
 listed-high q listed = in-range (record { q = q; b = 1; p = 1 }) (rw listed) .q-high
 
 pub widths : Widths

@@ -2,8 +2,8 @@
 -- Assumes nothing.
 use mathlib.Core.Path.{_≡_, refl}
 use Prim.Native.Nat.{ℕ}
-use Rattle.geometry.specs.Banks.{listedOf, inRangeOf}
-use Rattle.geometry.specs.Lent.{lengthsFitOf, lentDeclineOf}
+use Rattle.geometry.specs.Banks.{listedOf, inRangeUpTo}
+use Rattle.geometry.specs.Lent.{lengthsFitOf, lentDeclineUpTo}
 use Rattle.sequence.specs.Sequence.{complementOf, validOf}
 use Rattle.sequence.specs.Comparison.{compareOf}
 use Rattle.device.specs.declared.record.Device.{Device}
@@ -26,7 +26,7 @@ unfolding complementOf validOf compareOf resetConOf resetDeviceOf
 bench-power-on = (λ d. refl, λ d. refl, λ d. refl, λ d. refl)
 
 pub bench : Bench
-unfolding listedOf inRangeOf lengthsFitOf lentDeclineOf complementOf validOf compareOf registerOf implementedOf possibleOf commonDeclineOf totalOf
+unfolding listedOf inRangeUpTo lengthsFitOf lentDeclineUpTo complementOf validOf compareOf registerOf implementedOf possibleOf commonDeclineOf totalOf
     clashOf sequenceAllowsOf upperFreeOf startDeclineOf startOf
 bench =
     record {

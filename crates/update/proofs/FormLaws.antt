@@ -55,7 +55,7 @@ actions-formed g image w place =
     (pick-both Formed (ltb place (programmingFrom g)) (page-formed g (erasedPageOf g ((place - 12) / pageActions g)) ((place - 12) % pageActions g))
     (let j = programmedQuadOf g ((place - programmingFrom g) / 13) in quad-formed g j (newQuadOf g image w j) ((place - programmingFrom g) % 13)))
 
-pub total-high : (g : Geometry) → InRange g → totalOf g < 1000000
+pub total-high : (g : Geometry) → InRange g → totalOf g < 2000000
 unfolding totalOf
 total-high g ok = omega (arith, ok .boot-high, ok .program-high, ok .b-high, ok .p-high)
 

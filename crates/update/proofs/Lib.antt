@@ -24,3 +24,4 @@ pub mod Example
 pub mod KeyLaws
 pub mod Probes
 pub mod Reasons
+pub mod LargerTotals

@@ -7,3 +7,4 @@ pub mod Example
 pub mod Run
 pub mod Probes
 pub mod Reasons
+pub mod LargerTotals

@@ -48,7 +48,7 @@ fn unchanged(decline: Decline, done: bool, d: Device, place: u32) -> TurnEffect
 
 // The effect of a turn whose action is carried out.
 fn going(answer: Answer, write: Write, place: u32) -> TurnEffect
-    requires { ⌜ place < 1000000 ⌝ }
+    requires { ⌜ place < 2000000 ⌝ }
     ensures { λ r. ⌜ r ≡ record {
       write = write;
       turned =
@@ -82,7 +82,7 @@ fn act(
     requires { ⌜ (length (now one) ≡ bankWordsOf g) × (length (now two) ≡ bankWordsOf g) ⌝ }
     requires { ⌜ length (now sram) ≤ mostSram ⌝ }
     requires { ⌜ Formed action ⌝ }
-    requires { ⌜ place < 1000000 ⌝ }
+    requires { ⌜ place < 2000000 ⌝ }
     ensures { λ r. ⌜ effectedOf (lent d (one .entry) (two .entry)) r ≡ actOf g (lent d (one .entry) (two .entry)) (now (sram .entry)) place action ⌝ }
     ensures { λ r. ⌜ Fits (now (one .entry)) (now (two .entry)) (r .write) ⌝ }
 {

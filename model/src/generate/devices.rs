@@ -1,7 +1,7 @@
 //! Geometries, addresses and device records.
 
 use crate::device::*;
-use crate::geometry::{Geometry, Kind, Side, ROW_QUADS};
+use crate::geometry::{Geometry, Kind, Side, MOST_PROGRAM_PAGES, ROW_QUADS};
 use crate::operation::{judge, Judgement};
 use crate::random::Random;
 
@@ -19,7 +19,7 @@ pub fn geometry(random: &mut Random, max_words: u32) -> Geometry {
     let row_quads = random.pick(&fitting);
     let pages = max_words / (32 * row_quads);
     let boot_pages = random.between(1, 5.min(pages - 1));
-    let most = 64.min(pages - boot_pages);
+    let most = MOST_PROGRAM_PAGES.min(pages - boot_pages);
     let program_pages = match random.below(4) {
         0 => most,
         1 => random.between(1, most),
@@ -39,7 +39,7 @@ pub fn refused_numbers(random: &mut Random, geometry: &Geometry) -> [u32; 3] {
     numbers[row] = match row {
         0 => random.pick(&[0, 3, 5, 6, 7, 9, 127, 129, 256, 0x8000_0000, 0xFFFF_FFFF]),
         1 => random.pick(&[0, 6, 7, 64, 65_536, 0xFFFF_FFFF]),
-        _ => random.pick(&[0, 65, 66, 128, 65_536, 0xFFFF_FFFF]),
+        _ => random.pick(&[0, 129, 130, 256, 65_536, 0xFFFF_FFFF]),
     };
     if random.one_in(6) {
         numbers[random.below(3) as usize] = random.edge_word();

@@ -117,7 +117,7 @@ fn archive_back(source: &[u8], target: &mut [u8]) {
 
 /// Both ways of the archive beside the plain loops.
 pub fn beside_plain_loops() {
-    let geometry = Geometry::new([128, 5, 64]).expect("a sign");
+    let geometry = Geometry::new([128, 5, 128]).expect("a sign");
     let words = random_image(&geometry, 3);
     let mut image = Aligned::new(4 * words.len());
     for (bytes, word) in image.bytes_mut().chunks_exact_mut(4).zip(words) {

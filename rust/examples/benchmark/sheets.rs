@@ -9,7 +9,7 @@ use yohrundel::{page_sheet, Device, Geometry};
 use crate::rounds::{report, rounds, Side};
 
 /// Q, B and P.
-const LARGEST: [u32; 3] = [128, 5, 64];
+const LARGEST: [u32; 3] = [128, 5, 128];
 
 /// The sheets of a round.
 const SHEETS: u32 = 16;

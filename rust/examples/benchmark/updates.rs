@@ -4,7 +4,7 @@ use crate::rounds::{report, rounds, Side, Times};
 use crate::turns::{ByValue, Lent, Outside, Start, Update, SLICE};
 
 /// Q, B and P.
-const LARGEST: [u32; 3] = [128, 5, 64];
+const LARGEST: [u32; 3] = [128, 5, 128];
 const SMALLEST: [u32; 3] = [1, 1, 1];
 
 /// An update of the largest sign by both turns, beside the model's on the same banks and image.
@@ -53,6 +53,6 @@ pub fn by_size() {
     let mut small = Repeated(Update::new(&smallest));
     let times = rounds([&mut large, &mut small], slices);
     let counts = [largest.total, slices * small.updates() * smallest.total];
-    let name = "turn, the device lent, with N=69 and Q=128 beside N=2 and Q=1";
+    let name = "turn, the device lent, with N=133 and Q=128 beside N=2 and Q=1";
     report(name, &times, "turn", counts);
 }

@@ -11,7 +11,7 @@ use yohrundel::{form, nvmcon, register, Decline, Device, Geometry};
 fn sizes_of_every_geometry() {
     for q in (0..=129).chain([255, 256, 0x8000_0000, u32::MAX]) {
         for b in (0..=6).chain([u32::MAX]) {
-            for p in (0..=65).chain([u32::MAX]) {
+            for p in (0..=129).chain([u32::MAX]) {
                 let sign = Geometry { q, b, p };
                 let sizes = [
                     sign.pages(),

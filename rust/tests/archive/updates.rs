@@ -22,7 +22,7 @@ const SIGNS: [[u32; 3]; 8] = [
     [16, 1, 1],
 ];
 
-const LARGEST: [u32; 3] = [128, 5, 64];
+const LARGEST: [u32; 3] = [128, 5, 128];
 
 /// One sign in the archive and in the model.
 pub struct Sign {

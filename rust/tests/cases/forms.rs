@@ -43,7 +43,7 @@ fn long_lists() {
     let device = "0 0 0 0 0 0 0 0 2147483648 40927 2031616 0 0";
     let sheet = format!("page_sheet 1 1 1 {device} 64 0 0 64 0 1 63 1");
     let lines = [
-        String::from("page 128 5 64 300001 7 1 300000 8 0"),
+        String::from("page 128 5 128 600001 7 1 600000 8 0"),
         String::from("page 1 1 1 16777216 4294967295 0 0"),
         format!("step 1 1 1 {device} 64 0 0 1000000 1 1 999999 2 16385 3 0"),
         format!("{sheet} 15262104 32 2 5 0 15262103 255"),

@@ -131,7 +131,7 @@ fn declined(arguments: &str, reason: &str) {
 fn declined_arguments() {
     let reason = "1: the quads per row, boot pages or program pages are out of range";
     for geometry in [
-        "0 1 1", "3 1 1", "256 1 1", "1 0 1", "1 6 1", "1 1 0", "1 1 65",
+        "0 1 1", "3 1 1", "256 1 1", "1 0 1", "1 6 1", "1 1 0", "1 1 129",
     ] {
         declined(&format!("update {geometry}"), reason);
         declined(&format!("cut {geometry} 0 0"), reason);

@@ -132,21 +132,28 @@ impl Sign {
         let mut text = String::from("        boot  program\n");
         for bank in [Bank::One, Bank::Two] {
             let runs = if self.runs() == Some(bank) { '*' } else { ' ' };
-            let label = format!("bank {}{runs} ", bank.number());
-            text += &self.row(&label, |kind, page| self.contents(bank, kind, page));
-            let marks = self.row(&" ".repeat(8), |kind, page| self.mark(bank, kind, page));
-            if marks != "\n" {
-                text += &marks;
+            let mut label = format!("bank {}{runs} ", bank.number());
+            // The program pages from the 65th on stand in a row of their own.
+            for first in (0..self.geometry.program_pages).step_by(64) {
+                text += &self.row(&label, first, |kind, page| self.contents(bank, kind, page));
+                label = " ".repeat(8);
+                let marks = self.row(&label, first, |kind, page| self.mark(bank, kind, page));
+                if marks != "\n" {
+                    text += &marks;
+                }
             }
         }
         text
     }
 
-    fn row(&self, label: &str, character: impl Fn(Kind, u32) -> char) -> String {
+    fn row(&self, label: &str, first: u32, character: impl Fn(Kind, u32) -> char) -> String {
         let mut row = String::from(label);
-        row.extend((0..self.geometry.boot_pages).map(|page| character(Kind::Boot, page)));
+        if first == 0 {
+            row.extend((0..self.geometry.boot_pages).map(|page| character(Kind::Boot, page)));
+        }
         row += &" ".repeat(14 - row.len());
-        row.extend((0..self.geometry.program_pages).map(|page| character(Kind::Program, page)));
+        let program_pages = first..self.geometry.program_pages.min(first + 64);
+        row.extend(program_pages.map(|page| character(Kind::Program, page)));
         row.truncate(row.trim_end().len());
         row + "\n"
     }

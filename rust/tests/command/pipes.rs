@@ -37,18 +37,18 @@ fn output_that_cannot_be_written() {
 /// The largest sign's image comes more than a second late, from when on a terminal would get a bar.
 #[test]
 fn no_bar_in_a_pipe() {
-    let child = spawn(&["update", "128", "5", "64", "-"]);
+    let child = spawn(&["update", "128", "5", "128", "-"]);
     sleep(Duration::from_millis(1200));
-    let ran = finish(child, &vec![7; 69 * 128 * 128]);
+    let ran = finish(child, &vec![7; 133 * 128 * 128]);
     let printed = ran.printed();
-    assert!(printed.contains("done after 989748 turns"));
+    assert!(printed.contains("done after 1907764 turns"));
     assert!(!printed.contains('\r'));
 }
 
 /// At most 78 columns, and no blanks at the end of a line.
 #[test]
 fn lines_of_the_largest_picture() {
-    let printed = run(&["update", "1", "5", "64"]).printed();
+    let printed = run(&["update", "1", "5", "128"]).printed();
     let longest = printed.lines().map(str::len).max();
     assert_eq!(longest, Some(78));
     assert!(printed.lines().all(|line| line == line.trim_end()));

@@ -10,7 +10,14 @@ use model::store::start_up;
 
 use crate::run::{bytes, file, run, Ran};
 
-const SIGNS: [[u32; 3]; 5] = [[1, 1, 1], [1, 5, 64], [2, 3, 7], [16, 2, 12], [128, 1, 3]];
+const SIGNS: [[u32; 3]; 6] = [
+    [1, 1, 1],
+    [1, 5, 64],
+    [1, 5, 128],
+    [2, 3, 7],
+    [16, 2, 12],
+    [128, 1, 3],
+];
 
 /// A bank with blank quads and blank pages in it, and the sequence number in place.
 fn random_bank(random: &mut Random, geometry: &Geometry, low: u16) -> Vec<u32> {

@@ -146,7 +146,9 @@ fn updates_with_a_made_up_image() {
         [2, 3, 2],
         [4, 1, 9],
         [1, 5, 64],
-        [128, 5, 64],
+        [1, 2, 65],
+        [1, 5, 128],
+        [128, 5, 128],
     ] {
         let arguments = format!("update {}", geometry_text(numbers));
         let arguments: Vec<&str> = arguments.split(' ').collect();

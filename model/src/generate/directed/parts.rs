@@ -3,7 +3,7 @@
 use crate::cases::{Call, Case};
 use crate::device::*;
 use crate::generate::plans::put_plan;
-use crate::geometry::{Geometry, Kind, Side, ALL_ONES};
+use crate::geometry::{Geometry, Kind, Side, ALL_ONES, MOST_PROGRAM_PAGES};
 use crate::list::List;
 use crate::plan::Window;
 use crate::sequence::word_of;
@@ -27,14 +27,14 @@ pub const SEVERAL: Geometry = Geometry {
 pub const MANY_PAGES: Geometry = Geometry {
     row_quads: 1,
     boot_pages: 5,
-    program_pages: 64,
+    program_pages: MOST_PROGRAM_PAGES,
 };
 
 /// The largest banks.
 pub const LARGEST: Geometry = Geometry {
     row_quads: 128,
     boot_pages: 5,
-    program_pages: 64,
+    program_pages: MOST_PROGRAM_PAGES,
 };
 
 /// The four windows.

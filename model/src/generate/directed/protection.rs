@@ -2,7 +2,7 @@
 
 use crate::cases::Case;
 use crate::device::*;
-use crate::geometry::{Geometry, Kind, Side, ROW_QUADS};
+use crate::geometry::{Geometry, Kind, Side, MOST_PROGRAM_PAGES, ROW_QUADS};
 
 use super::parts::*;
 
@@ -11,7 +11,9 @@ pub fn cases() -> Vec<Case> {
     for row_quads in ROW_QUADS {
         program_pages(&geometry(row_quads, 1, 2), &mut cases);
     }
-    program_pages(&geometry(128, 1, 64), &mut cases);
+    for pages in [64, MOST_PROGRAM_PAGES] {
+        program_pages(&geometry(128, 1, pages), &mut cases);
+    }
     for mapping in MAPPINGS {
         first_pages(mapping, &mut cases);
     }

@@ -104,7 +104,7 @@ fn buffer_empty(case: &mut Case) {
     case.lists[2].length = 0;
 }
 
-/// Q, B and P just outside, with banks and a buffer as long as they would ask for.
+/// Q, B and P just outside, and P around the limits of 64 and 128, with banks and a buffer as long as they would ask for.
 fn numbers(cases: &mut Vec<Case>) {
     for (row_quads, boot_pages, program_pages) in [
         (0, 1, 1),
@@ -115,7 +115,11 @@ fn numbers(cases: &mut Vec<Case>) {
         (1, 0, 1),
         (1, 6, 1),
         (1, 1, 0),
+        (1, 1, 64),
         (1, 1, 65),
+        (1, 1, 127),
+        (1, 1, 128),
+        (1, 1, 129),
     ] {
         let geometry = geometry(row_quads, boot_pages, program_pages);
         let words = geometry.bank_words() as usize;

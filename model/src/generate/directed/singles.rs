@@ -33,7 +33,12 @@ fn numbers(cases: &mut Vec<Case>) {
     for boot_pages in (0..=8).chain([256, 257, 1 << 31, ALL_ONES]) {
         read(1, boot_pages, 1);
     }
-    for program_pages in (0..=2).chain(62..=67).chain([256, 257, 1 << 31, ALL_ONES]) {
+    for program_pages in
+        (0..=2)
+            .chain(62..=67)
+            .chain(126..=131)
+            .chain([256, 257, 1 << 31, ALL_ONES])
+    {
         read(1, 1, program_pages);
     }
 }
@@ -56,7 +61,7 @@ fn accepted() -> [Case; 10] {
     ]
 }
 
-/// Numbers just outside, with banks and an image as long as they would ask for.
+/// Numbers just outside, and P around the limits of 64 and 128, with banks and an image as long as they would ask for.
 fn numbers_of_each_call(cases: &mut Vec<Case>) {
     for numbers in [
         [0, 1, 1],
@@ -64,7 +69,11 @@ fn numbers_of_each_call(cases: &mut Vec<Case>) {
         [1, 0, 1],
         [1, 6, 1],
         [1, 1, 0],
+        [1, 1, 64],
         [1, 1, 65],
+        [1, 1, 127],
+        [1, 1, 128],
+        [1, 1, 129],
     ] {
         for mut case in accepted() {
             case.geometry = numbers;

@@ -20,29 +20,46 @@ pub fn legend() -> String {
     )
 }
 
-/// A row for each bank, boot pages and then program pages, and under it one with a mark for each protected page.
+/// Program pages in a row, which then has at most 78 columns. A bank with more has a second row.
+const ROW_PAGES: usize = 64;
+
+/// Rows for each bank, boot pages and then program pages, and under each row one with a mark for each protected page.
 pub fn picture(sign: &Sign) -> Result<String, Decline> {
     let mut text = row("", "boot", "program");
     for bank in [Bank::One, Bank::Two] {
         let runs = sign.device.running_bank() == Some(bank);
         let mark = if runs { RUNS } else { ' ' };
         let label = format!("bank {}{mark}", bank.number());
-        text += &pages_row(sign, &label, &contents(sign, bank)?);
-        let marks = protection(sign, bank)?;
-        if marks.contains(PROTECTED) {
-            text += &pages_row(sign, "", &marks);
-        }
+        let (contents, marks) = (contents(sign, bank)?, protection(sign, bank)?);
+        let boot_pages = sign.geometry.b as usize;
+        text += &bank_rows(
+            &label,
+            contents.split_at(boot_pages),
+            marks.split_at(boot_pages),
+        );
     }
     Ok(text)
 }
 
-/// A row with a character for each page.
-fn pages_row(sign: &Sign, label: &str, characters: &str) -> String {
-    let (boot, program) = characters.split_at(sign.geometry.b as usize);
-    row(label, boot, program)
+/// The rows of a bank, from the characters and the marks of its boot pages and its program pages.
+fn bank_rows(label: &str, contents: (&str, &str), marks: (&str, &str)) -> String {
+    let mut text = String::new();
+    let program_pages = contents.1.len();
+    for from in (0..program_pages).step_by(ROW_PAGES) {
+        let pages = from..program_pages.min(from + ROW_PAGES);
+        let (label, boot, boot_marks) = match from {
+            0 => (label, contents.0, marks.0),
+            _ => ("", "", ""),
+        };
+        text += &row(label, boot, &contents.1[pages.clone()]);
+        let marked = row("", boot_marks, &marks.1[pages]);
+        if marked.contains(PROTECTED) {
+            text += &marked;
+        }
+    }
+    text
 }
 
-/// A row of at most 78 columns: a bank has at most 5 boot pages and 64 program pages.
 fn row(label: &str, boot: &str, program: &str) -> String {
     let row = format!("{label:8}{boot:5} {program}");
     format!("{}\n", row.trim_end())

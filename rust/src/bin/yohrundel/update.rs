@@ -17,7 +17,7 @@ pub const COMMAND: Command = Command {
     summary: "runs a whole update of a sign",
     details: "\
 The sign has Q quads per row (1, 2, 4, 8, 16, 32, 64 or 128), B boot pages (1 to
-5) and P program pages (1 to 64) a bank. Its bank 1 runs with the sequence
+5) and P program pages (1 to 128) a bank. Its bank 1 runs with the sequence
 number 1, bank 2 is erased.
 IMAGE is a file of words, lowest byte first, exactly one bank long: (B + P) x
 128 x Q bytes; - is standard input. Without it the image is made up.

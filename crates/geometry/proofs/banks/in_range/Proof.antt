@@ -4,7 +4,7 @@ use mathlib.Core.Path.{_≡_, sym, _∙_}
 use lib.Dec.{leb}
 use borrow.Author.Tests.{le-leb, lt-leb, not-true, not-false}
 use borrow.Author.Needs.{needs}
-use Rattle.geometry.specs.Banks.{listedOf, mostBootPages, inRangeOf}
+use Rattle.geometry.specs.Banks.{listedOf, mostBootPages, inRangeUpTo}
 use Rattle.geometry.proofs.banks.in_range.Statement.{statement}
 use Rattle.geometry.proofs.banks.in_range.Tie as tie
 
@@ -22,28 +22,28 @@ few-boot c = le-leb _ _ (c .if3 .left)
 -- ---- what each return gives
 
 unlisted : tie.Need-returns
-unfolding inRangeOf
+unfolding inRangeUpTo
 unlisted c = rw (sym (c .before .is-listed .ensures) ∙ not-true _ (c .if1 .taken))
 
 no-boot : tie.Need-returns-2
-unfolding inRangeOf
+unfolding inRangeUpTo
 no-boot c = rw (listed (c .before .before), lt-leb _ _ (c .if2 .taken))
 
 many-boot : tie.Need-returns-3
-unfolding inRangeOf
+unfolding inRangeUpTo
 many-boot c =
     let some = c .before .before in
     rw (listed (some .before .before), some-boot some, lt-leb _ _ (c .if3 .taken))
 
 no-program : tie.Need-returns-4
-unfolding inRangeOf
+unfolding inRangeUpTo
 no-program c =
     let few = c .before .before in
     let some = few .before .before in
     rw (listed (some .before .before), some-boot some, few-boot few, lt-leb _ _ (c .if4 .taken))
 
 by-program : tie.Need-returns-5
-unfolding inRangeOf
+unfolding inRangeUpTo
 by-program c =
     let program = c .before in
     let few = program .before .before in

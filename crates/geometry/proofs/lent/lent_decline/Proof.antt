@@ -2,13 +2,13 @@
 use borrow.Author.Tests.{not-true, not-false}
 use mathlib.Core.Path.{sym, _∙_}
 use borrow.Author.Needs.{needs}
-use Rattle.geometry.specs.Lent.{lentDeclineOf}
+use Rattle.geometry.specs.Lent.{lentDeclineUpTo}
 use Rattle.geometry.proofs.SizeLaws.{in-range}
 use Rattle.geometry.proofs.lent.lent_decline.Statement.{statement}
 use Rattle.geometry.proofs.lent.lent_decline.Tie as tie
 
 pub lent-decline-spec : {M : Type 1} → statement M
-unfolding lentDeclineOf
+unfolding lentDeclineUpTo
 lent-decline-spec =
     tie.close
     (tie.spec

@@ -25,7 +25,7 @@ later c = c .before .before .if1 .left
 first : (c : tie.After-pages) → 12 + c .pages .result * (8 + c .before .page-quads .result) ≡ programmingFrom (entry c .args .g)
 first c = cc (c .pages .ensures, c .before .page-quads .ensures)
 
-product : (c : tie.After-pages) → c .pages .result * (8 + c .before .page-quads .result) ≤ 1000000
+product : (c : tie.After-pages) → c .pages .result * (8 + c .before .page-quads .result) ≤ 2000000
 product c =
     let h = entry c .pre .0 in
     rw (c .pages .ensures, c .before .page-quads .ensures) (omega (arith, h .boot-high, h .program-high, h .b-high, h .p-high))

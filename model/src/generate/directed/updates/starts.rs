@@ -32,7 +32,7 @@ pub fn cases() -> Vec<Case> {
 /// "gives place 0 and the total", whatever the geometry.
 fn totals(cases: &mut Vec<Case>) {
     for row_quads in ROW_QUADS {
-        for (boot_pages, program_pages) in [(1, 1), (2, 3), (5, 64)] {
+        for (boot_pages, program_pages) in [(1, 1), (2, 3), (5, 64), (1, 65), (5, 128)] {
             let geometry = geometry(row_quads, boot_pages, program_pages);
             cases.push(Sign::blank(geometry, row_quads > 8).start());
         }

@@ -57,11 +57,12 @@ fn block_ends(geometry: &Geometry, stride: u32) -> Vec<u32> {
 fn largest_places() -> Vec<u32> {
     let (each, programming) = (erase_actions(&LARGEST), program_place(&LARGEST));
     let mut places = vec![0, 11];
-    for page in [0, 1, 4, 5, 68] {
+    for page in [0, 1, 4, 5, 68, 69, LARGEST.pages() - 1] {
         let first = 12 + page * each;
         places.extend([first, first + 7, first + each - 2, first + each - 1]);
     }
-    let (program, all) = (64 * LARGEST.page_quads(), 69 * LARGEST.page_quads());
+    let program = LARGEST.program_pages * LARGEST.page_quads();
+    let all = LARGEST.pages() * LARGEST.page_quads();
     for quad in [0, program - 1, program, all - 2, all - 1] {
         let first = programming + 13 * quad;
         places.extend([first, first + 1, first + 4, first + 11, first + 12]);
