@@ -6,7 +6,7 @@ mod walks;
 
 pub use shapes::{Call, Rest, Shape, BASE, SHAPES};
 
-use crate::device::{possible, protected, Device, REGISTERS};
+use crate::device::{possible, protected, Device, Operands, REGISTERS};
 use crate::flash::{flash_read, lower_bank, page, reset, step};
 use crate::geometry::{Banks, Geometry, Kind, Side};
 use crate::list::List;
@@ -250,16 +250,33 @@ fn take_device(numbers: &mut impl Iterator<Item = u32>) -> Option<Device> {
     }
     let key_step = numbers.next()?;
     let step_number = numbers.next()?;
+    let launched = take_operands(numbers)?;
     Some(Device {
         registers,
         key_step,
         step_number,
+        launched,
+    })
+}
+
+fn take_operands(numbers: &mut impl Iterator<Item = u32>) -> Option<Operands> {
+    let address = numbers.next()?;
+    let mut data = [0; 4];
+    for word in &mut data {
+        *word = numbers.next()?;
+    }
+    let source = numbers.next()?;
+    Some(Operands {
+        address,
+        data,
+        source,
     })
 }
 
 fn put_device(device: &Device, numbers: &mut Vec<u32>) {
     numbers.extend(device.registers);
     numbers.extend([device.key_step, device.step_number]);
+    numbers.extend(device.launched.numbers());
 }
 
 fn device_outputs(device: &Device, rest: &[u32]) -> Vec<u32> {

@@ -83,6 +83,7 @@ impl Sum {
     fn add_device(&mut self, device: &Device) {
         self.add(&device.registers);
         self.add(&[device.key_step, device.step_number]);
+        self.add(&device.launched.numbers());
     }
 }
 

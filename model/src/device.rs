@@ -62,12 +62,36 @@ pub const NVMVRD: u32 = 1 << 12;
 pub const NVMRETRY: u32 = 0x300;
 pub const SWAPLOCK: u32 = 0xC0;
 
-/// "eleven registers, the key step (0 to 3) and the step number".
+/// What an operation works by: NVMADDR, NVMDATA0 to 3 and NVMSRCADDR.
+#[derive(Clone, Copy, Debug, PartialEq, Eq)]
+pub struct Operands {
+    pub address: u32,
+    pub data: [u32; 4],
+    pub source: u32,
+}
+
+impl Operands {
+    /// W-209: "all 0 while WR is 0".
+    pub const NONE: Operands = Operands {
+        address: 0,
+        data: [0; 4],
+        source: 0,
+    };
+
+    /// Six numbers, in the order of the registers.
+    pub fn numbers(&self) -> [u32; 6] {
+        let [zero, one, two, three] = self.data;
+        [self.address, zero, one, two, three, self.source]
+    }
+}
+
+/// "eleven registers, the key step (0 to 3) and the step number"; from W-209 on what the running operation was launched with.
 #[derive(Clone, Copy, Debug, PartialEq, Eq)]
 pub struct Device {
     pub registers: [u32; REGISTERS],
     pub key_step: u32,
     pub step_number: u32,
+    pub launched: Operands,
 }
 
 impl Device {
@@ -77,6 +101,7 @@ impl Device {
             registers: RESETS,
             key_step: 0,
             step_number: 0,
+            launched: Operands::NONE,
         }
     }
 
@@ -109,9 +134,21 @@ impl Device {
         self.key_step == 3
     }
 
-    pub fn nvmdata(&self) -> [u32; 4] {
+    /// What the six registers hold now, for the next launch.
+    pub fn loaded(&self) -> Operands {
         let data = &self.registers[NVMDATA0..NVMDATA0 + 4];
-        [data[0], data[1], data[2], data[3]]
+        Operands {
+            address: self.registers[NVMADDR],
+            data: [data[0], data[1], data[2], data[3]],
+            source: self.registers[NVMSRCADDR],
+        }
+    }
+
+    /// The operation ends: no next step, and nothing that it was launched with.
+    pub fn end_operation(&mut self) {
+        self.clear_con(WR);
+        self.step_number = 0;
+        self.launched = Operands::NONE;
     }
 
     /// The bank whose boot or program pages stand on a side.
@@ -174,7 +211,7 @@ pub fn possible(geometry: &Geometry, device: &Device) -> bool {
     if device.running() {
         running_possible(geometry, device)
     } else {
-        device.step_number == 0
+        device.step_number == 0 && device.launched == Operands::NONE
     }
 }
 
@@ -182,7 +219,8 @@ fn running_possible(geometry: &Geometry, device: &Device) -> bool {
     if device.key_step != 0 || !device.con(WRERR) || device.con(LVDERR) {
         return false;
     }
-    match judge(geometry, device) {
+    // W-209: "3 judges the launched target"
+    match judge(geometry, device, device.launched.address) {
         Judgement::Steps(length) => device.step_number < length,
         Judgement::NoLaunch | Judgement::Failure => false,
     }

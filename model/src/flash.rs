@@ -29,7 +29,8 @@ fn next_effect(geometry: &Geometry, device: &Device, banks: &Banks, sram: &[u32]
     let bank = device.bank_at(location.kind, location.side);
     let index = geometry.word_index(location);
     let data = match device.nvmop() {
-        2 => Some(device.nvmdata()),
+        // W-209: "uses the address, data and source it was launched with"
+        2 => Some(device.launched.data),
         3 => row_data(device, sram),
         // "Erasing sets all ones"
         _ => {
@@ -49,9 +50,9 @@ fn next_effect(geometry: &Geometry, device: &Device, banks: &Banks, sram: &[u32]
     }
 }
 
-/// Four words at NVMSRCADDR + 16×step, "a sum that doesn't wrap".
+/// Four words at NVMSRCADDR as launched + 16×step, "a sum that doesn't wrap".
 fn row_data(device: &Device, sram: &[u32]) -> Option<[u32; 4]> {
-    let address = u64::from(device.registers[NVMSRCADDR]) + 16 * u64::from(device.step_number);
+    let address = u64::from(device.launched.source) + 16 * u64::from(device.step_number);
     if !address.is_multiple_of(4) {
         return None;
     }
@@ -94,8 +95,7 @@ pub fn apply_step(
     match next_effect(geometry, &device, banks, sram) {
         Effect::Abort => {
             // "quad unchanged, WR = 0, WRERR stays 1, event"
-            after.clear_con(WR);
-            after.step_number = 0;
+            after.end_operation();
             return (after, true);
         }
         Effect::Nothing => {}
@@ -103,9 +103,10 @@ pub fn apply_step(
     }
     after.step_number = device.step_number + 1;
     // "The last step clears WR and WRERR, with an event"
-    if judge(geometry, &device) == Judgement::Steps(after.step_number) {
-        after.clear_con(WR | WRERR);
-        after.step_number = 0;
+    let length = judge(geometry, &device, device.launched.address);
+    if length == Judgement::Steps(after.step_number) {
+        after.end_operation();
+        after.clear_con(WRERR);
         return (after, true);
     }
     (after, false)
@@ -165,12 +166,12 @@ fn tear(geometry: &Geometry, device: &Device, banks: &mut Banks, sram: &[u32], m
     }
 }
 
-/// Kinds 1 and 2, BFSWAP left to the comparison.
+/// Kinds 1 and 2, BFSWAP left to the comparison. W-209: "keeps the new register values".
 fn reset_without_power(device: Device, kind: u32) -> Device {
     let mut after = device;
-    after.clear_con(WR | WREN | PFSWAP);
+    after.end_operation();
+    after.clear_con(WREN | PFSWAP);
     after.key_step = 0;
-    after.step_number = 0;
     after.registers[NVMPWP] = RESETS[NVMPWP];
     after.registers[NVMBWP] = RESETS[NVMBWP];
     // "keep the rest and NVMERS"

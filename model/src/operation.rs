@@ -1,6 +1,6 @@
 //! The target of NVMOP: whether steps begin, how many, and the quad of each.
 
-use crate::device::{location_protected, protected, Device, NVMADDR};
+use crate::device::{location_protected, protected, Device};
 use crate::geometry::{Bank, Geometry, Kind, Location, Side};
 
 /// What NVMOP and its target lead to, errors set before left aside.
@@ -14,13 +14,13 @@ pub enum Judgement {
     Steps(u32),
 }
 
-/// Judges NVMOP and target.
-pub fn judge(geometry: &Geometry, device: &Device) -> Judgement {
+/// Judges NVMOP and the target that an address names.
+pub fn judge(geometry: &Geometry, device: &Device, address: u32) -> Judgement {
     let region = geometry.page_quads() * geometry.program_pages;
     match device.nvmop() {
-        2 => judge_address(geometry, device, 1),
-        3 => judge_address(geometry, device, geometry.row_quads),
-        4 => judge_address(geometry, device, geometry.page_quads()),
+        2 => judge_address(geometry, device, address, 1),
+        3 => judge_address(geometry, device, address, geometry.row_quads),
+        4 => judge_address(geometry, device, address, geometry.page_quads()),
         5 => judge_failure(region_protected(geometry, device, Side::Lower), region),
         6 => judge_failure(region_protected(geometry, device, Side::Upper), region),
         // "7 both: failure if PWP is not 0"
@@ -38,8 +38,8 @@ fn judge_failure(failure: bool, length: u32) -> Judgement {
 }
 
 /// "Outside the four windows, or in a protected program page: failure".
-fn judge_address(geometry: &Geometry, device: &Device, length: u32) -> Judgement {
-    match geometry.locate(rounded_address(geometry, device)) {
+fn judge_address(geometry: &Geometry, device: &Device, address: u32, length: u32) -> Judgement {
+    match geometry.locate(rounded_address(geometry, device, address)) {
         None => Judgement::Failure,
         Some(location) => {
             let program = location.kind == Kind::Program;
@@ -54,18 +54,23 @@ fn region_protected(geometry: &Geometry, device: &Device, side: Side) -> bool {
     (0..geometry.program_pages).any(|page| protected(geometry, device, Kind::Program, side, page))
 }
 
-/// "NVMADDR is rounded down to 16, 16×Q or 128×Q bytes"; the register keeps its value.
-pub fn rounded_address(geometry: &Geometry, device: &Device) -> u32 {
+/// "NVMADDR is rounded down to 16, 16×Q or 128×Q bytes"; the register keeps its value, and what was launched is unrounded.
+pub fn rounded_address(geometry: &Geometry, device: &Device, address: u32) -> u32 {
     let unit = match device.nvmop() {
         3 => geometry.row_bytes(),
         4 => geometry.page_bytes(),
         _ => 16,
     };
-    round_down(device.registers[NVMADDR], unit)
+    round_down(address, unit)
 }
 
 pub fn round_down(address: u32, unit: u32) -> u32 {
     address - address % unit
+}
+
+/// The target that the running operation was launched with.
+fn launched_address(geometry: &Geometry, device: &Device) -> u32 {
+    rounded_address(geometry, device, device.launched.address)
 }
 
 /// The quad of the next step of a running operation.
@@ -73,7 +78,7 @@ pub fn next_quad(geometry: &Geometry, device: &Device) -> Option<Location> {
     let step = device.step_number;
     let region = geometry.page_quads() * geometry.program_pages;
     match device.nvmop() {
-        2..=4 => geometry.locate(rounded_address(geometry, device) + 16 * step),
+        2..=4 => geometry.locate(launched_address(geometry, device) + 16 * step),
         5 => Some(region_quad(Side::Lower, step)),
         6 => Some(region_quad(Side::Upper, step)),
         // "lower before upper for NVMOP 7"
@@ -100,7 +105,7 @@ pub fn targets(geometry: &Geometry, device: &Device, bank: Bank) -> bool {
         5 => device.bank_at(Kind::Program, Side::Lower) == bank,
         6 => device.bank_at(Kind::Program, Side::Upper) == bank,
         7 => true,
-        _ => match geometry.locate(rounded_address(geometry, device)) {
+        _ => match geometry.locate(launched_address(geometry, device)) {
             Some(location) => device.bank_at(location.kind, location.side) == bank,
             None => false,
         },

@@ -28,7 +28,7 @@ pub fn store(
     if form > INVERT || key_form {
         return Err(Refusal::Register);
     }
-    check_idle(&device)?;
+    check_store(&device, register)?;
     Ok(apply_store(&geometry, device, register, form, value))
 }
 
@@ -37,6 +37,14 @@ fn check_register(register: u32) -> Answer<()> {
         return Err(Refusal::Register);
     }
     Ok(())
+}
+
+/// Decline 5 of a store. W-209: "stores to NVMADDR, NVMDATA0 to 3 and NVMSRCADDR are accepted".
+pub fn check_store(device: &Device, register: u32) -> Answer<()> {
+    if (NVMADDR..=NVMSRCADDR).contains(&(register as usize)) {
+        return Ok(());
+    }
+    check_idle(device)
 }
 
 /// Decline 5: "with WR = 1".
@@ -178,7 +186,7 @@ fn launch(geometry: &Geometry, device: Device) -> (Device, bool) {
     if device.con(WRERR | LVDERR) {
         return (after, false);
     }
-    match judge(geometry, &device) {
+    match judge(geometry, &device, device.registers[NVMADDR]) {
         Judgement::NoLaunch => (after, false),
         Judgement::Failure => {
             after.set_con(WRERR);
@@ -187,6 +195,8 @@ fn launch(geometry: &Geometry, device: Device) -> (Device, bool) {
         Judgement::Steps(_) => {
             after.set_con(WR | WRERR);
             after.step_number = 0;
+            // W-209: "all six registers as they stood before the launching store, unrounded"
+            after.launched = device.loaded();
             (after, false)
         }
     }

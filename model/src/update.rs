@@ -4,7 +4,7 @@ use crate::device::*;
 use crate::flash::{apply_step, check_running, reset_choice};
 use crate::geometry::{check_sram, Banks, Geometry, Kind, Side};
 use crate::sequence::{halves_disjoint, low_half, new_quad, valid};
-use crate::store::{apply_store, check_idle, CLEAR, KEYS, PLAIN, SET};
+use crate::store::{apply_store, check_idle, check_store, CLEAR, KEYS, PLAIN, SET};
 use crate::{Answer, Refusal};
 
 #[derive(Clone, Copy, Debug, PartialEq, Eq)]
@@ -259,7 +259,7 @@ fn act(
             form,
             value,
         } => {
-            check_idle(&device)?;
+            check_store(&device, register)?;
             Ok(apply_store(geometry, device, register, form, value))
         }
         Action::Step => {

@@ -1,6 +1,6 @@
 //! The bench values of the paper and its worked script.
 
-use model::device::{protected, Device, NVMADDR, NVMCON, NVMPWP};
+use model::device::{protected, Device, NVMCON, NVMPWP};
 use model::generate::{old_bank_one, random_image};
 use model::geometry::{Bank, Banks, Geometry, Kind, Side, ALL_ONES};
 use model::operation::rounded_address;
@@ -65,8 +65,8 @@ fn program_protection() {
 fn rounding_to_a_page() {
     let mut device = Device::reset_values();
     device.registers[NVMCON] = 4;
-    device.registers[NVMADDR] = 0x1D00_00FF;
-    assert_eq!(rounded_address(&geometry([1, 1, 1]), &device), 0x1D00_0080);
+    let rounded = rounded_address(&geometry([1, 1, 1]), &device, 0x1D00_00FF);
+    assert_eq!(rounded, 0x1D00_0080);
 }
 
 #[test]

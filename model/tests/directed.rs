@@ -9,16 +9,16 @@ use model::generate::{line, record_edges, refused_scripts};
 use model::script::play;
 
 /// The numbers of a device.
-const DEVICE: usize = 13;
+const DEVICE: usize = 19;
 
 /// Where NVMCON stands in an answer that gives a device.
 const CON: usize = 1;
 
 /// Where the number or the event after such a device stands.
-const AFTER_DEVICE: usize = 14;
+const AFTER_DEVICE: usize = 20;
 
 /// Where the event stands in a turn's answer: after done, the device and the place.
-const TURN_EVENT: usize = 16;
+const TURN_EVENT: usize = 22;
 
 fn numbers(case: &Case) -> Vec<u32> {
     let answer = case.answer().expect("a case of a known call");
@@ -47,6 +47,7 @@ fn outcome(case: &Case) -> String {
         return numbers[0].to_string();
     }
     let text = match case.call {
+        Call::Store if case.device.running() => "loaded",
         Call::Store if numbers[CON] & WR != 0 => "launched",
         Call::Store if numbers[AFTER_DEVICE] == 1 => "failed",
         Call::Step if numbers[AFTER_DEVICE + 1] > 0 => "written",
@@ -113,6 +114,18 @@ const EXPECTED: &[(&str, &str, &str)] = &[
     ("probes", "register_read", "accepted 4"),
     ("probes", "walk", "written untouched"),
     ("reasons", "compare_reason", "1/0 1/1 1/2 1/3 2/0 2/2"),
+    ("loads", "possible", "0 1"),
+    ("loads", "store", "loaded launched failed accepted 3 4 5"),
+    ("loads", "register_read", "accepted 3 4"),
+    ("loads", "flash_read", "accepted 3 9"),
+    ("loads", "lower_bank", "accepted 3"),
+    ("loads", "step", "written aborted counted 3"),
+    ("loads", "reset", "torn untouched 3"),
+    ("loads", "startup", "3 5"),
+    ("loads", "update_start", "3 5"),
+    ("loads", "turn", "accepted written event done 3 5 13"),
+    ("loads", "page_sheet", "accepted"),
+    ("loads", "walk", "written"),
 ];
 
 #[test]

@@ -123,8 +123,9 @@ fn update_with_a_cut() {
 }
 
 /// The device after power-on, and a quad program that runs.
-const IDLE: &str = "0 0 0 0 0 0 0 0 2147483648 40927 2031616 0 0";
-const RUNNING: &str = "57346 0 486539392 1 2 3 4 0 2147483648 40927 2031616 0 0";
+const IDLE: &str = "0 0 0 0 0 0 0 0 2147483648 40927 2031616 0 0 0 0 0 0 0 0";
+const RUNNING: &str =
+    "57346 0 486539392 1 2 3 4 0 2147483648 40927 2031616 0 0 486539392 1 2 3 4 0";
 
 /// The banks of the play program.
 const BANKS: &str = "64 4294967295 1 28 4294836225 64 4294967295 0";
@@ -145,13 +146,15 @@ fn sheet() -> String {
 #[test]
 fn calls() {
     let stored_address = IDLE.replacen("0 0 0", "0 0 486539392", 1);
+    let loaded = RUNNING.replacen("486539392", "486539408", 1);
     let cases = [
         format!("store 1 1 1 {IDLE} 2 0 486539392"),
         format!("register_read 1 1 1 {stored_address} 2"),
         format!("flash_read 1 1 1 {IDLE} {BANKS} 532676720"),
         format!("lower_bank 1 1 1 {IDLE} {BANKS}"),
         String::from("page 1 1 1 64 4294967295 0 1"),
-        format!("step 1 1 1 {RUNNING} {BANKS} 0 0 0"),
+        format!("store 1 1 1 {RUNNING} 2 0 486539408"),
+        format!("step 1 1 1 {loaded} {BANKS} 0 0 0"),
         String::from("plan 200 60 2 1500 240 9960 360"),
         String::from("compare_reason 4294836225 4294967295"),
         String::from("lanes_out 8 0 8 0 1 1 2 2 3 3 4 4 5 5 6 6 7 7 8 8 0 0"),

@@ -3,7 +3,9 @@
 use std::collections::{BTreeMap, BTreeSet};
 
 use model::cases::{answer_line, Call, Case, SHAPES};
+use model::device::{possible, Device, Operands};
 use model::generate::{line, request_lines, script, Cases, MOST_WORDS};
+use model::geometry::Geometry;
 use model::script::{play, records};
 
 /// The declines of each call.
@@ -68,7 +70,7 @@ fn a_seed_keeps_its_lines() {
             sum = (1_000_003 * sum + u64::from(byte)) % 4_294_967_311;
         }
     }
-    assert_eq!(sum, 2_476_780_027);
+    assert_eq!(sum, 2_809_526_423);
 }
 
 /// Sheets of every Q, under all four mappings, of idle and running devices; plans of few and many windows.
@@ -91,6 +93,44 @@ fn requests_vary() {
         }
     }
     assert_eq!(seen.len(), 8 + 4 + 2 + 16, "{seen:?}");
+}
+
+/// Running devices that were and were not loaded since their launch; impossible ones by what was launched alone.
+#[test]
+fn launched_operands_vary() {
+    let mut seen: BTreeMap<String, u32> = BTreeMap::new();
+    for case in Cases::new(1, 512).take(8000) {
+        let Ok(geometry) = Geometry::new(case.geometry) else {
+            continue;
+        };
+        let device = case.device;
+        let registers = Device {
+            launched: device.loaded(),
+            ..device
+        };
+        let none = Device {
+            launched: Operands::NONE,
+            ..device
+        };
+        let other = if device.running() { registers } else { none };
+        let class = format!(
+            "running {}, possible {}, otherwise {}, equal {}",
+            device.running(),
+            possible(&geometry, &device),
+            possible(&geometry, &other),
+            device == other
+        );
+        *seen.entry(class).or_default() += 1;
+    }
+    for class in [
+        "running true, possible true, otherwise true, equal true",
+        "running true, possible true, otherwise true, equal false",
+        "running true, possible true, otherwise false, equal false",
+        "running true, possible false, otherwise true, equal false",
+        "running false, possible false, otherwise true, equal false",
+    ] {
+        assert!(seen[class] > 20, "{seen:?}");
+    }
 }
 
 #[test]

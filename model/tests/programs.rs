@@ -2,7 +2,7 @@
 
 use model::cases::{answer_line, left_of_bar};
 use model::cuts::cuts;
-use model::generate::directed::cases;
+use model::generate::directed::base_cases;
 use model::generate::record_edges;
 use model::script::{play, unbundled};
 use std::collections::HashSet;
@@ -49,7 +49,7 @@ fn conformance_program() {
     assert_eq!(printed.as_bytes(), stored("conformance", "stdout"));
 }
 
-/// Every stored case of the base's calls and every directed one is among the program's inputs.
+/// The stored cases of the base's calls and every directed one of these calls are among the program's inputs.
 #[test]
 fn conformance_inputs() {
     let inputs = stored("conformance", "stdin");
@@ -59,7 +59,7 @@ fn conformance_inputs() {
     for line in std::fs::read_to_string(calls).unwrap().lines() {
         assert!(there.contains(left_of_bar(line)), "{line}");
     }
-    for (subject, case) in cases() {
+    for (subject, case) in base_cases() {
         let inputs = case.inputs();
         assert!(there.contains(&inputs[..]), "{subject}: {inputs}");
     }

@@ -22,7 +22,7 @@ fn stored_scripts() {
         );
         count += 1;
     }
-    assert_eq!(count, 40);
+    assert_eq!(count, 60);
 }
 
 #[test]
@@ -50,7 +50,7 @@ fn lines_that_are_no_case() {
 
 #[test]
 fn lines_that_are_no_case_of_a_request() {
-    let device = "0 0 0 0 0 0 0 0 2147483648 40927 2031616 0 0";
+    let device = "0 0 0 0 0 0 0 0 2147483648 40927 2031616 0 0 0 0 0 0 0 0";
     let sheet = format!("page_sheet 1 1 1 {device} 64 0 0 64 0 0");
     assert_eq!(answer_line("plan 5 1 1 0 1"), "0 10075");
     assert_eq!(answer_line("plan 5 1 0"), "15");

@@ -113,4 +113,9 @@ impl Call {
     pub fn shape(self) -> &'static Shape {
         &SHAPES[self as usize]
     }
+
+    /// Whether it is a call of the base.
+    pub fn of_base(self) -> bool {
+        (self as usize) < BASE
+    }
 }

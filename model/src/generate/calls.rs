@@ -114,6 +114,9 @@ fn store_case(random: &mut Random, geometry: &Geometry, case: &mut Case) {
     } else {
         random.below(4)
     };
+    if (NVMADDR..=NVMSRCADDR).contains(&(register as usize)) && random.one_in(3) {
+        case.device = devices::running(random, geometry);
+    }
     if register as usize == NVMCON && random.one_in(2) {
         case.device = devices::launching(random, geometry);
         case.numbers = vec![register, form, random.pick(&[WR, WR | WREN, WR | 0xCF])];
@@ -226,6 +229,8 @@ fn sequence_target(random: &mut Random, geometry: &Geometry, case: &mut Case) {
     device.registers[NVMADDR] = start + geometry.window_bytes(Kind::Boot) - 16;
     device.registers[NVMDATA0] = word_of(random.word() as u16);
     device.registers[NVMBWP] &= !UBWP;
+    device.launched = device.loaded();
+    devices::load_since(random, geometry, &mut device);
     case.device = device;
 }
 

@@ -182,24 +182,42 @@ pub fn running_operation(random: &mut Random, geometry: &Geometry, nvmop: u32) -
         device.registers[NVMADDR] = inside_address(random, geometry);
     }
     device.key_step = 0;
-    let length = match judge(geometry, &device) {
-        Judgement::Steps(length) => length,
-        _ => {
-            device.registers[NVMPWP] &= !PWP;
-            operation_length(geometry, &device)
-        }
-    };
+    device.launched = device.loaded();
+    if judge(geometry, &device, device.launched.address) == Judgement::Failure {
+        device.registers[NVMPWP] &= !PWP;
+    }
+    let length = operation_length(geometry, &device);
     device.step_number = match random.below(4) {
         0 => 0,
         1 => length - 1,
         2 => length.saturating_sub(2),
         _ => random.below(length),
     };
+    load_since(random, geometry, &mut device);
     device
 }
 
+/// Some of the six registers stored to since the launch; in one device of two none.
+pub fn load_since(random: &mut Random, geometry: &Geometry, device: &mut Device) {
+    match random.below(6) {
+        0..=2 => {}
+        3 => device.registers[NVMADDR] = address(random, geometry),
+        4 => {
+            let row = random.between(NVMADDR as u32, NVMSRCADDR as u32) as usize;
+            device.registers[row] = random.edge_word();
+        }
+        _ => {
+            device.registers[NVMADDR] = address(random, geometry);
+            for word in 0..4 {
+                device.registers[NVMDATA0 + word] = random.edge_word();
+            }
+            device.registers[NVMSRCADDR] = source(random);
+        }
+    }
+}
+
 fn operation_length(geometry: &Geometry, device: &Device) -> u32 {
-    match judge(geometry, device) {
+    match judge(geometry, device, device.launched.address) {
         Judgement::Steps(length) => length,
         _ => 1,
     }
@@ -221,7 +239,7 @@ pub fn impossible(random: &mut Random, geometry: &Geometry) -> Device {
 
 fn spoiled_idle(random: &mut Random, geometry: &Geometry) -> Device {
     let mut device = idle(random, geometry);
-    match random.below(6) {
+    match random.below(8) {
         0 => {
             let row = random.pick(&[NVMCON, NVMPWP, NVMBWP, NVMCON2]);
             device.registers[row] |= 1 << random.below(32);
@@ -230,6 +248,8 @@ fn spoiled_idle(random: &mut Random, geometry: &Geometry) -> Device {
         2 => device.registers[NVMKEY] = random.edge_word(),
         3 => device.key_step = random.pick(&[4, 5, 0xFFFF_FFFF]),
         4 => device.step_number = random.pick(&[1, 2, 8, 0xFFFF_FFFF]),
+        5 => spoil_launched(random, &mut device.launched),
+        6 => device.launched = device.loaded(),
         _ => {
             for row in 0..REGISTERS {
                 device.registers[row] = random.word();
@@ -239,10 +259,20 @@ fn spoiled_idle(random: &mut Random, geometry: &Geometry) -> Device {
     device
 }
 
+/// One of the six gets a word.
+fn spoil_launched(random: &mut Random, launched: &mut Operands) {
+    let word = random.edge_word();
+    match random.below(3) {
+        0 => launched.address = word,
+        1 => launched.data[random.below(4) as usize] = word,
+        _ => launched.source = word,
+    }
+}
+
 fn spoiled_running(random: &mut Random, geometry: &Geometry) -> Device {
     let mut device = running(random, geometry);
     let length = operation_length(geometry, &device);
-    match random.below(8) {
+    match random.below(9) {
         0 => device.key_step = random.between(1, 3),
         1 => device.clear_con(WRERR),
         2 => device.set_con(LVDERR),
@@ -253,7 +283,8 @@ fn spoiled_running(random: &mut Random, geometry: &Geometry) -> Device {
         4 => device.step_number = length + random.pick(&[0, 1, 2]),
         5 => device.step_number = 0xFFFF_FFFF - random.below(2),
         6 => device.registers[NVMPWP] |= random.between(1, PWP),
-        _ => device.registers[NVMADDR] = random.edge_word(),
+        7 => device.launched = Operands::NONE,
+        _ => device.launched.address = random.edge_word(),
     }
     device
 }

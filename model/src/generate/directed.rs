@@ -5,6 +5,7 @@ mod impossible;
 mod keys;
 mod lanes;
 mod launches;
+mod loads;
 mod orders;
 mod pages;
 mod parts;
@@ -61,13 +62,14 @@ pub const SUBJECTS: [Subject; 16] = [
 ];
 
 /// Subjects of the calls that later requests added.
-pub const REQUEST_SUBJECTS: [Subject; 6] = [
+pub const REQUEST_SUBJECTS: [Subject; 7] = [
     subject("plans", plans::cases),
     subject("sheets", sheets::cases),
     subject("lanes", lanes::cases),
     subject("sums", sums::cases),
     subject("probes", probes::cases),
     subject("reasons", reasons::cases),
+    subject("loads", loads::cases),
 ];
 
 /// The cases of the base's subjects.
@@ -78,6 +80,13 @@ pub fn cases() -> Vec<(&'static str, Case)> {
 /// The cases of the requests' subjects.
 pub fn request_cases() -> Vec<(&'static str, Case)> {
     cases_of(&REQUEST_SUBJECTS)
+}
+
+/// The cases of the base's calls, of all subjects.
+pub fn base_cases() -> Vec<(&'static str, Case)> {
+    let mut all = [cases(), request_cases()].concat();
+    all.retain(|(_, case)| case.call.of_base());
+    all
 }
 
 /// The cases of some subjects; one that several of them make stands with the first.

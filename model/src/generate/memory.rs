@@ -101,7 +101,12 @@ pub fn prepare_quad(
 
 /// SRAM that ends near the words the next row step needs, or of some other length.
 pub fn sram(random: &mut Random, device: &Device) -> Vec<u32> {
-    let first = u64::from(device.registers[NVMSRCADDR]) / 4 + 4 * u64::from(device.step_number);
+    let source = if device.running() {
+        device.launched.source
+    } else {
+        device.registers[NVMSRCADDR]
+    };
+    let first = u64::from(source) / 4 + 4 * u64::from(device.step_number);
     let length = match random.below(6) {
         0 => random.below(8) as usize,
         1 => random.pick(&[16_383, 16_384]),

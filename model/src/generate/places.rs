@@ -4,6 +4,7 @@ use crate::device::{Device, BFSWAP, NVMBWP, NVMPWP, PFSWAP, PWP, UBWPULOCK};
 use crate::geometry::{Banks, Geometry, ALL_ONES};
 use crate::random::Random;
 use crate::sequence::word_of;
+use crate::store::check_store;
 use crate::update::{action, erase_actions, program_place, total, turn, Action};
 
 use super::devices::idle;
@@ -39,8 +40,11 @@ pub fn suiting_place(random: &mut Random, geometry: &Geometry, device: &Device) 
         if place >= total(geometry) {
             continue;
         }
-        let step = action(geometry, 0, &blank, place) == Action::Step;
-        if step == device.running() {
+        let suits = match action(geometry, 0, &blank, place) {
+            Action::Step => device.running(),
+            Action::Store { register, .. } => check_store(device, register).is_ok(),
+        };
+        if suits {
             return place;
         }
     }

@@ -149,7 +149,7 @@ fn bad_lengths() -> Vec<Vec<u8>> {
 /// Scripts that are played.
 fn played_scripts() -> Vec<Vec<u8>> {
     let mut scripts = changed(|kind, place| values(kind, place).0);
-    let made: [fn(&mut Vec<Record>); 13] = [
+    let made: [fn(&mut Vec<Record>); 16] = [
         key_forms_while_idle,
         key_forms_while_running,
         every_register_and_form,
@@ -163,6 +163,9 @@ fn played_scripts() -> Vec<Vec<u8>> {
         inverted_boot_protection,
         inverted_swap_lock,
         row_without_data,
+        loaded_early,
+        loaded_before_a_reset,
+        loaded_out_of_the_windows,
     ];
     for make in made {
         let mut records = Vec::new();
@@ -205,7 +208,7 @@ fn every_register_and_form(records: &mut Vec<Record>) {
     }
 }
 
-/// Each register while a page erase runs: 5, and nothing changes.
+/// Each register while a page erase runs: 5, or 0 for NVMADDR, NVMDATA0 to 3 and NVMSRCADDR; the erase goes on as launched.
 fn stores_while_running(records: &mut Vec<Record>) {
     launch(records, 4, LOWER_PROGRAM + 0x80);
     for register in 0..REGISTERS {
@@ -322,6 +325,52 @@ fn row_without_data(records: &mut Vec<Record>) {
     launch(records, 0, 0);
     launch(records, 3, LOWER_BOOT);
     steps(records, 2);
+}
+
+/// The next target and data stored while a program runs: each quad is written once, so that no program aborts.
+fn loaded_early(records: &mut Vec<Record>) {
+    launch(records, 2, LOWER_PROGRAM);
+    for number in 1..4 {
+        store(records, NVMADDR, PLAIN, LOWER_PROGRAM + 16 * number);
+        for word in 0..4 {
+            store(records, NVMDATA0 + word, PLAIN, number);
+        }
+        steps(records, 1);
+        keys(records);
+        store(records, NVMCON, SET, WR);
+    }
+    steps(records, 2);
+}
+
+/// A reset of each kind after a load: kinds 1 and 2 keep what was loaded, and a launch without an address of its own uses it.
+fn loaded_before_a_reset(records: &mut Vec<Record>) {
+    for kind in 0..3 {
+        launch(records, 4, LOWER_PROGRAM);
+        store(records, NVMADDR, PLAIN, LOWER_PROGRAM + 0x80);
+        records.push(Record::Reset { kind });
+        launch_loaded(records, 0);
+        launch_loaded(records, 4);
+        steps(records, 1);
+        records.push(Record::Reset { kind: 0 });
+    }
+}
+
+/// NVMADDR stored outside the windows: the running erase ends, the next launch fails.
+fn loaded_out_of_the_windows(records: &mut Vec<Record>) {
+    launch(records, 4, LOWER_PROGRAM + 0x80);
+    steps(records, 1);
+    store(records, NVMADDR, PLAIN, LOWER_PROGRAM + 0x100);
+    steps(records, 7);
+    launch_loaded(records, 4);
+}
+
+/// A launch at the address that NVMADDR has.
+fn launch_loaded(records: &mut Vec<Record>, nvmop: u32) {
+    store(records, NVMCON, CLEAR, WREN);
+    store(records, NVMCON, PLAIN, nvmop);
+    store(records, NVMCON, SET, WREN);
+    keys(records);
+    store(records, NVMCON, SET, WR);
 }
 
 /// NVMDATA0 to 3 inverted from 0 to all ones, but for one: the second program aborts then.

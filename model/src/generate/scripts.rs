@@ -79,9 +79,24 @@ fn operation(random: &mut Random, records: &mut Vec<Record>) {
     }
     let plain = random.one_in(6);
     store(records, NVMCON, if plain { PLAIN } else { SET }, WR);
+    let loading = random.one_in(4);
     for _ in 0..steps(random, nvmop) {
+        if loading {
+            load(random, records);
+        }
         records.push(Record::Step);
     }
+}
+
+/// A store to NVMADDR, NVMDATA0 to 3 or NVMSRCADDR while the operation runs.
+fn load(random: &mut Random, records: &mut Vec<Record>) {
+    let register = random.between(NVMADDR as u32, NVMSRCADDR as u32) as usize;
+    let value = if register == NVMADDR {
+        target(random)
+    } else {
+        random.edge_word()
+    };
+    store(records, register, random.below(4), value);
 }
 
 fn target(random: &mut Random) -> u32 {

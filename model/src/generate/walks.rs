@@ -1,4 +1,4 @@
-//! Walks: launches with a probe's register reads among their stores, steps, resets, start-ups and flash reads.
+//! Walks: launches with a probe's register reads among their stores, steps with loads among them, resets, start-ups and flash reads.
 
 use crate::cases::Case;
 use crate::device::*;
@@ -100,7 +100,23 @@ fn operation(random: &mut Random, geometry: &Geometry, moves: &mut Moves) {
         }
         moves.store(register, form, value);
     }
+    let loading = random.one_in(2);
     for _ in 0..random.below(10) {
+        if loading && random.one_in(3) {
+            load(random, geometry, moves);
+        }
         moves.step();
+    }
+}
+
+/// A store to NVMADDR, NVMDATA0 to 3 or NVMSRCADDR, or a flash read, while the operation runs.
+fn load(random: &mut Random, geometry: &Geometry, moves: &mut Moves) {
+    let address = devices::address(random, geometry);
+    let data = NVMDATA0 + random.below(4) as usize;
+    match random.below(4) {
+        0 => moves.store(NVMADDR, random.below(4), address),
+        1 => moves.store(data, random.below(4), random.edge_word()),
+        2 => moves.store(NVMSRCADDR, random.below(4), random.edge_word()),
+        _ => moves.flash_read(address & !3),
     }
 }

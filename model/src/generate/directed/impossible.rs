@@ -165,16 +165,23 @@ pub fn reasons() -> Vec<Device> {
 
 /// Each reason in each call that takes a device.
 fn every_call(cases: &mut Vec<Case>) {
-    let banks = filled(&SMALL, 0);
     for device in reasons() {
-        cases.push(store(&SMALL, device, NVMADDR, 0, 1));
-        cases.push(register_read(&SMALL, device, 0));
-        cases.push(flash_read(&SMALL, device, &banks, LOWER_PROGRAM + 128));
-        cases.push(lower_bank(&SMALL, device, &banks));
-        cases.push(step(&SMALL, device, &banks, &[]));
-        cases.push(reset(&SMALL, device, &banks, &[], 2, [ALL_ONES; 4]));
-        cases.push(start_up(&SMALL, device));
-        cases.push(update_start(&SMALL, device, &banks, &banks[0]));
-        cases.push(turn(&SMALL, device, &banks, &banks[0], &[], 0));
+        cases.extend(calls_on(device));
     }
+}
+
+/// One of each of the base's calls that take a device.
+pub fn calls_on(device: Device) -> [Case; 9] {
+    let banks = filled(&SMALL, 0);
+    [
+        store(&SMALL, device, NVMADDR, 0, 1),
+        register_read(&SMALL, device, 0),
+        flash_read(&SMALL, device, &banks, LOWER_PROGRAM + 128),
+        lower_bank(&SMALL, device, &banks),
+        step(&SMALL, device, &banks, &[]),
+        reset(&SMALL, device, &banks, &[], 2, [ALL_ONES; 4]),
+        start_up(&SMALL, device),
+        update_start(&SMALL, device, &banks, &banks[0]),
+        turn(&SMALL, device, &banks, &banks[0], &[], 0),
+    ]
 }

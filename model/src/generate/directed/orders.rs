@@ -22,7 +22,7 @@ pub fn cases() -> Vec<Case> {
 /// Each case with the lowest number that applies, 0 where none does.
 pub fn ordered() -> Vec<(u32, Case)> {
     let (banks, running) = (blank(&SMALL), running(5, 0, 0));
-    let stored = store(&SMALL, idle(), NVMADDR, PLAIN, 1);
+    let stored = store(&SMALL, idle(), NVMPWP, PLAIN, 1);
     let read = flash_read(&SMALL, running, &banks, UPPER_BOOT);
     let torn = reset(&SMALL, running, &banks, &[], 0, [0; 4]);
     [
@@ -177,16 +177,19 @@ fn key_form(case: &mut Case) {
 
 fn runs(case: &mut Case) {
     case.device.set_con(WR | WRERR | 5);
+    case.device = as_launched(case.device);
 }
 
 /// NVMOP 4 in a boot page, which PWP does not concern.
 fn runs_in_boot_pages(case: &mut Case) {
     case.device.set_con(WR | WRERR | 4);
     case.device.registers[NVMADDR] = UPPER_BOOT;
+    case.device = as_launched(case.device);
 }
 
 fn idles(case: &mut Case) {
     case.device.clear_con(WR);
+    case.device.launched = Operands::NONE;
 }
 
 /// The lower region's bank is the lower alias's.

@@ -134,6 +134,10 @@ pub fn with_step(device: Device, step_number: u32) -> Device {
     }
 }
 
+pub fn with_launched(device: Device, launched: Operands) -> Device {
+    Device { launched, ..device }
+}
+
 /// Banks of one word each, but for valid sequence words; bank 1 wins the comparison.
 pub fn filled(geometry: &Geometry, fill: u32) -> Pair {
     let mut banks = [1, 2].map(|_| vec![fill; geometry.bank_words() as usize]);
@@ -164,8 +168,16 @@ pub fn named(geometry: &Geometry) -> Pair {
 pub fn case(call: Call, geometry: &Geometry, device: Device) -> Case {
     let mut case = Case::new(call);
     case.geometry = geometry.numbers();
-    case.device = device;
+    case.device = as_launched(device);
     case
+}
+
+/// Where an operation runs and nothing else is said to have been launched, it is what the registers hold.
+pub fn as_launched(device: Device) -> Device {
+    if !device.running() || device.launched != Operands::NONE {
+        return device;
+    }
+    with_launched(device, device.loaded())
 }
 
 pub fn lists(case: &mut Case, banks: &Pair) {

@@ -158,7 +158,7 @@ fn registers_and_forms(cases: &mut Vec<Case>) {
     }
 }
 
-/// Decline 5: each register, each form of NVMCON, each NVMOP.
+/// Decline 5: each register but the six of W-209, each form of NVMCON, each NVMOP.
 fn stores_while_running(cases: &mut Vec<Case>) {
     for register in 0..REGISTERS {
         let device = running(4, LOWER_PROGRAM, 3);

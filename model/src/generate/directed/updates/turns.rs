@@ -89,7 +89,7 @@ fn store_places(geometry: &Geometry) -> Vec<u32> {
     places
 }
 
-/// Decline 5.
+/// Decline 5, but for stores to NVMADDR and NVMDATA0 to 3.
 fn stores_while_running(sign: &Sign, cases: &mut Vec<Case>) {
     let mapping = sign.device.registers[NVMCON];
     for place in store_places(&sign.geometry) {
