@@ -14,10 +14,11 @@ use Rattle.words.proofs.PickLaws.{and-both}
 use Rattle.words.proofs.MaskLaws.{Within, within-test, test-within, below-within, within-below}
 use Rattle.geometry.specs.declared.banks.Geometry.{Geometry}
 use Rattle.device.specs.declared.record.Device.{Device}
+use Rattle.device.specs.declared.record.Operands.{Operands}
 use Rattle.device.specs.Registers.{withinOf, ALWAYS}
-use Rattle.device.specs.Builders.{withCon}
-use Rattle.device.specs.Record.{registerOf, running}
-use Rattle.common_declines.specs.Possible.{rowsFit, implementedOf, runningOf, possibleOf}
+use Rattle.device.specs.Builders.{withCon, withLaunched, withOperands}
+use Rattle.device.specs.Record.{registerOf, running, operandsOf, noOperands}
+use Rattle.common_declines.specs.Possible.{rowsFit, implementedOf, launchedFitsOf, nothingLaunchedOf, runningOf, restingOf, possibleOf}
 
 -- each register is within its mask
 pub record Implemented (d : Device) : Type 0 where
@@ -78,34 +79,94 @@ implemented-test d h =
       within-test 0xF01F_B3C0 (d .nvmcon2 .0) (h .con2),
     )
 
--- the four parts of decline 3
+-- what registers hold can be launched
+pub operands-fit : (d : Device) → Implemented d → launchedFitsOf (operandsOf d) ≡ true
+unfolding launchedFitsOf
+operands-fit d h =
+    rw (
+      word-test (d .nvmaddr) (h .addr),
+      word-test (wordAt (d .nvmdata) 0) (h .words 0 (omega arith)),
+      word-test (wordAt (d .nvmdata) 1) (h .words 1 (omega arith)),
+      word-test (wordAt (d .nvmdata) 2) (h .words 2 (omega arith)),
+      word-test (wordAt (d .nvmdata) 3) (h .words 3 (omega arith)),
+      word-test (d .nvmsrcaddr) (h .src),
+    )
+
+-- and what can be launched registers can hold
+pub launched-fit : (d : Device) (o : Operands) → launchedFitsOf o ≡ true → Implemented d → Implemented (withOperands d o)
+unfolding launchedFitsOf
+launched-fit d o h old =
+    let s2 = and-both (withinOf 2 (o .nvmaddr)) _ h in
+    let s3 = and-both (withinOf 3 (wordAt (o .nvmdata) 0)) _ (s2 .1) in
+    let s4 = and-both (withinOf 4 (wordAt (o .nvmdata) 1)) _ (s3 .1) in
+    let s5 = and-both (withinOf 5 (wordAt (o .nvmdata) 2)) _ (s4 .1) in
+    let s6 = and-both (withinOf 6 (wordAt (o .nvmdata) 3)) (withinOf 7 (o .nvmsrcaddr)) (s5 .1) in
+    record {
+      con = old .con;
+      key = old .key;
+      addr = test-word (o .nvmaddr) (s2 .0);
+      words = below-four _ (test-word _ (s3 .0)) (test-word _ (s4 .0)) (test-word _ (s5 .0)) (test-word _ (s6 .0));
+      src = test-word (o .nvmsrcaddr) (s6 .1);
+      pwp = old .pwp;
+      bwp = old .bwp;
+      con2 = old .con2;
+    }
+
+-- the five parts of decline 3
 pub record Possible (g : Geometry) (d : Device) : Type 0 where
   pub rows : Implemented d
+  pub launched : launchedFitsOf (d .launched) ≡ true
   pub always : hasOf (d .nvmbwp .0) ALWAYS ≡ true
   pub keys : d .keystep ≤ 3
-  pub runs : pick (running d) (runningOf g d) (eqb (d .step) 0) ≡ true
+  pub runs : pick (running d) (runningOf g d) (restingOf d) ≡ true
 
 pub possible : (g : Geometry) (d : Device) → possibleOf g d ≡ true → Possible g d
 unfolding possibleOf
 possible g d h =
-    let s0 = and-both (implementedOf d) (hasOf (d .nvmbwp .0) ALWAYS && (leb (d .keystep) 3 && pick (running d) (runningOf g d) (eqb (d .step) 0))) h in
-    let s1 = and-both (hasOf (d .nvmbwp .0) ALWAYS) (leb (d .keystep) 3 && pick (running d) (runningOf g d) (eqb (d .step) 0)) (s0 .1) in
-    let s2 = and-both (leb (d .keystep) 3) (pick (running d) (runningOf g d) (eqb (d .step) 0)) (s1 .1) in
-    record { rows = implemented d (s0 .0); always = s1 .0; keys = leb-true _ _ (s2 .0); runs = s2 .1 }
+    let runs = pick (running d) (runningOf g d) (restingOf d) in
+    let s0 = and-both (implementedOf d) (launchedFitsOf (d .launched) && (hasOf (d .nvmbwp .0) ALWAYS && (leb (d .keystep) 3 && runs))) h in
+    let s1 = and-both (launchedFitsOf (d .launched)) (hasOf (d .nvmbwp .0) ALWAYS && (leb (d .keystep) 3 && runs)) (s0 .1) in
+    let s2 = and-both (hasOf (d .nvmbwp .0) ALWAYS) (leb (d .keystep) 3 && runs) (s1 .1) in
+    let s3 = and-both (leb (d .keystep) 3) runs (s2 .1) in
+    record { rows = implemented d (s0 .0); launched = s1 .0; always = s2 .0; keys = leb-true _ _ (s3 .0); runs = s3 .1 }
 
 pub possible-test : (g : Geometry) (d : Device) → Possible g d → possibleOf g d ≡ true
 unfolding possibleOf
-possible-test g d h = rw (implemented-test d (h .rows), h .always, le-leb _ _ (h .keys), h .runs)
+possible-test g d h = rw (implemented-test d (h .rows), h .launched, h .always, le-leb _ _ (h .keys), h .runs)
+
+-- with WR = 0 the device holds nothing of an operation
+pub resting : (g : Geometry) (d : Device) → possibleOf g d ≡ true → running d ≡ false → restingOf d ≡ true
+resting g d h idle = rw idle at (possible g d h .runs)
 
 -- with WR = 0 the step number is 0
 pub idle-step : (g : Geometry) (d : Device) → possibleOf g d ≡ true → running d ≡ false → d .step ≡ 0
-idle-step g d h idle = eqb-true _ _ (rw idle at (possible g d h .runs))
+unfolding restingOf
+idle-step g d h idle = eqb-true _ _ (and-both (eqb (d .step) 0) _ (resting g d h idle) .0)
+
+-- and with nothing launched it can rest
+pub rests-empty : (d : Device) → d .step ≡ 0 → d .launched ≡ noOperands → restingOf d ≡ true
+unfolding restingOf nothingLaunchedOf
+rests-empty d step launched = rw (step, launched)
 
 -- the rows say nothing of the key step and the step number
 pub same-rows : (d : Device) (con keystep step : ℕ) → Within 0xF0CF con → Implemented d → Implemented (withCon d con keystep step)
 same-rows d con keystep step h old =
     record {
       con = h;
+      key = old .key;
+      addr = old .addr;
+      words = old .words;
+      src = old .src;
+      pwp = old .pwp;
+      bwp = old .bwp;
+      con2 = old .con2;
+    }
+
+-- nor of what was launched
+pub same-launched : (d : Device) (launched : Operands) → Implemented d → Implemented (withLaunched d launched)
+same-launched d launched old =
+    record {
+      con = old .con;
       key = old .key;
       addr = old .addr;
       words = old .words;

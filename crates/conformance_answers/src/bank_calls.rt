@@ -15,8 +15,8 @@ use geometry::banks::page_words;
 use reads::flash_read;
 use words::word::has;
 
-pub fn flash_read_answer(front: [u32; 20], one: &[u32], two: &[u32], address: u32) -> Answer
-    ensures { λ r. ⌜ r .count ≤ 20 ⌝ }
+pub fn flash_read_answer(front: [u32; 26], one: &[u32], two: &[u32], address: u32) -> Answer
+    ensures { λ r. ⌜ r .count ≤ 26 ⌝ }
 {
     let g = geometry_of(front);
     let d = device_of(front);
@@ -45,8 +45,8 @@ fn bank_number(part: &[u32], one: &[u32], two: &[u32], swap: bool) -> u32 {
     0
 }
 
-pub fn lower_bank_answer<'a>(front: [u32; 20], one: &'a [u32], two: &'a [u32]) -> Answer
-    ensures { λ r. ⌜ r .count ≤ 20 ⌝ }
+pub fn lower_bank_answer<'a>(front: [u32; 26], one: &'a [u32], two: &'a [u32]) -> Answer
+    ensures { λ r. ⌜ r .count ≤ 26 ⌝ }
 {
     let g = geometry_of(front);
     let d = device_of(front);
@@ -63,9 +63,9 @@ pub fn lower_bank_answer<'a>(front: [u32; 20], one: &'a [u32], two: &'a [u32]) -
     first.with(number)
 }
 
-pub fn page_answer(front: [u32; 20], bank: &[u32], number: u32) -> Answer
+pub fn page_answer(front: [u32; 26], bank: &[u32], number: u32) -> Answer
     requires { ⌜ length (now bank) < 4294967296 ⌝ }
-    ensures { λ r. ⌜ r .count ≤ 20 ⌝ }
+    ensures { λ r. ⌜ r .count ≤ 26 ⌝ }
 {
     let g = geometry_of(front);
     let decline = page_decline(g, bank, number);

@@ -14,7 +14,7 @@ use resets::reset;
 
 // What a step gives but for the changes.
 fn stepped(given: StepAnswer) -> Answer
-    ensures { λ r. ⌜ r .count ≤ 15 ⌝ }
+    ensures { λ r. ⌜ r .count ≤ 21 ⌝ }
 {
     let decline = given.decline;
     let first = Answer::only(decline.number());
@@ -26,7 +26,7 @@ fn stepped(given: StepAnswer) -> Answer
 
 // What a reset gives but for the changes.
 fn restarted(given: Restarted) -> Answer
-    ensures { λ r. ⌜ r .count ≤ 15 ⌝ }
+    ensures { λ r. ⌜ r .count ≤ 21 ⌝ }
 {
     let decline = given.decline;
     let first = Answer::only(decline.number());
@@ -40,14 +40,14 @@ fn restarted(given: Restarted) -> Answer
 pub fn step_answer(
     line: &[u8],
     lists: usize,
-    front: [u32; 20],
+    front: [u32; 26],
     one: &mut [u32],
     two: &mut [u32],
     spare: &mut [u32],
     sram: usize,
 ) -> Answer
     requires { ⌜ Lent (now one) (now two) (now spare) sram ⌝ }
-    ensures { λ r. ⌜ r .count ≤ 36 ⌝ }
+    ensures { λ r. ⌜ r .count ≤ 42 ⌝ }
 {
     let g = geometry_of(front);
     let d = device_of(front);
@@ -58,15 +58,15 @@ pub fn step_answer(
 pub fn reset_answer(
     line: &[u8],
     lists: usize,
-    front: [u32; 20],
-    back: [u32; 20],
+    front: [u32; 26],
+    back: [u32; 26],
     one: &mut [u32],
     two: &mut [u32],
     spare: &mut [u32],
     sram: usize,
 ) -> Answer
     requires { ⌜ Lent (now one) (now two) (now spare) sram ⌝ }
-    ensures { λ r. ⌜ r .count ≤ 36 ⌝ }
+    ensures { λ r. ⌜ r .count ≤ 42 ⌝ }
 {
     let g = geometry_of(front);
     let d = device_of(front);

@@ -15,8 +15,8 @@ use register_access::store;
 use sequence::comparison::compare;
 use start_up::start_up;
 
-pub fn compare_answer(words: [u32; 20]) -> Answer
-    ensures { λ r. ⌜ r .count ≤ 20 ⌝ }
+pub fn compare_answer(words: [u32; 26]) -> Answer
+    ensures { λ r. ⌜ r .count ≤ 26 ⌝ }
 {
     let c = compare(words[0], words[1]);
     if c.second {
@@ -25,8 +25,8 @@ pub fn compare_answer(words: [u32; 20]) -> Answer
     Answer::only(1)
 }
 
-pub fn possible_answer(words: [u32; 20]) -> Answer
-    ensures { λ r. ⌜ r .count ≤ 20 ⌝ }
+pub fn possible_answer(words: [u32; 26]) -> Answer
+    ensures { λ r. ⌜ r .count ≤ 26 ⌝ }
 {
     let g = geometry_of(words);
     if !in_range(g) {
@@ -46,13 +46,13 @@ fn pages_of(g: Geometry, kind: u32) -> u32
     }
 }
 
-pub fn protected_answer(words: [u32; 20]) -> Answer
-    ensures { λ r. ⌜ r .count ≤ 20 ⌝ }
+pub fn protected_answer(words: [u32; 26]) -> Answer
+    ensures { λ r. ⌜ r .count ≤ 26 ⌝ }
 {
     let g = geometry_of(words);
-    let kind = words[16];
-    let side = words[17];
-    let page = words[18];
+    let kind = words[22];
+    let side = words[23];
+    let page = words[24];
     if !in_range(g) {
         return Answer::no_case();
     }
@@ -66,12 +66,12 @@ pub fn protected_answer(words: [u32; 20]) -> Answer
     Answer::no_case().with_flag(is_protected(g, d, kind == 1, side == 1, page))
 }
 
-pub fn store_answer(words: [u32; 20]) -> Answer
-    ensures { λ r. ⌜ r .count ≤ 20 ⌝ }
+pub fn store_answer(words: [u32; 26]) -> Answer
+    ensures { λ r. ⌜ r .count ≤ 26 ⌝ }
 {
     let g = geometry_of(words);
     let d = device_of(words);
-    let given = store(g, d, words[16], words[17], words[18]);
+    let given = store(g, d, words[22], words[23], words[24]);
     let decline = given.decline;
     let first = Answer::only(decline.number());
     if !decline.is_accepted() {
@@ -80,12 +80,12 @@ pub fn store_answer(words: [u32; 20]) -> Answer
     with_device(first, given.device).with_flag(given.event)
 }
 
-pub fn register_read_answer(words: [u32; 20]) -> Answer
-    ensures { λ r. ⌜ r .count ≤ 20 ⌝ }
+pub fn register_read_answer(words: [u32; 26]) -> Answer
+    ensures { λ r. ⌜ r .count ≤ 26 ⌝ }
 {
     let g = geometry_of(words);
     let d = device_of(words);
-    let given = register_read(g, d, words[16]);
+    let given = register_read(g, d, words[22]);
     let decline = given.decline;
     let first = Answer::only(decline.number());
     if !decline.is_accepted() {
@@ -94,8 +94,8 @@ pub fn register_read_answer(words: [u32; 20]) -> Answer
     with_device(first.with(given.value), given.device)
 }
 
-pub fn start_up_answer(words: [u32; 20]) -> Answer
-    ensures { λ r. ⌜ r .count ≤ 20 ⌝ }
+pub fn start_up_answer(words: [u32; 26]) -> Answer
+    ensures { λ r. ⌜ r .count ≤ 26 ⌝ }
 {
     let g = geometry_of(words);
     let d = device_of(words);

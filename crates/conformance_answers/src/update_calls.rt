@@ -15,8 +15,8 @@ use update::turn::Turned;
 use update_start::start;
 use update_turn::turn;
 
-pub fn update_start_answer(front: [u32; 20], one: &[u32], two: &[u32], image: &[u32]) -> Answer
-    ensures { λ r. ⌜ r .count ≤ 20 ⌝ }
+pub fn update_start_answer(front: [u32; 26], one: &[u32], two: &[u32], image: &[u32]) -> Answer
+    ensures { λ r. ⌜ r .count ≤ 26 ⌝ }
 {
     let g = geometry_of(front);
     let d = device_of(front);
@@ -31,7 +31,7 @@ pub fn update_start_answer(front: [u32; 20], one: &[u32], two: &[u32], image: &[
 
 // What a turn gives but for the changes.
 fn turned(given: Turned) -> Answer
-    ensures { λ r. ⌜ r .count ≤ 17 ⌝ }
+    ensures { λ r. ⌜ r .count ≤ 23 ⌝ }
 {
     let decline = given.decline;
     let first = Answer::only(decline.number());
@@ -64,7 +64,7 @@ fn turn_with(
 pub fn turn_answer(
     line: &[u8],
     lists: usize,
-    front: [u32; 20],
+    front: [u32; 26],
     one: &mut [u32],
     two: &mut [u32],
     spare: &mut [u32],
@@ -74,7 +74,7 @@ pub fn turn_answer(
 ) -> Answer
     requires { ⌜ Lent (now one) (now two) (now spare) end ⌝ }
     requires { ⌜ Parted (now spare) middle end ⌝ }
-    ensures { λ r. ⌜ r .count ≤ 36 ⌝ }
+    ensures { λ r. ⌜ r .count ≤ 42 ⌝ }
 {
     let g = geometry_of(front);
     let d = device_of(front);

@@ -22,8 +22,8 @@ use conformance_cases::take_case;
 use conformance_io::answer::Answer;
 
 // What a call that lends no list gives for its numbers.
-fn device_answer(call: Call, words: [u32; 20]) -> Answer
-    ensures { λ r. ⌜ r .count ≤ 20 ⌝ }
+fn device_answer(call: Call, words: [u32; 26]) -> Answer
+    ensures { λ r. ⌜ r .count ≤ 26 ⌝ }
 {
     match call {
         Call::Compare => compare_answer(words),
@@ -39,13 +39,13 @@ fn device_answer(call: Call, words: [u32; 20]) -> Answer
 // What a call that changes no bank gives.
 fn still_answer<'a>(
     call: Call,
-    front: [u32; 20],
+    front: [u32; 26],
     one: &'a [u32],
     two: &'a [u32],
     last: u32,
 ) -> Answer
     requires { ⌜ length (now one) < 4294967296 ⌝ }
-    ensures { λ r. ⌜ r .count ≤ 20 ⌝ }
+    ensures { λ r. ⌜ r .count ≤ 26 ⌝ }
 {
     match call {
         Call::FlashRead => flash_read_answer(front, one, two, last),
@@ -66,7 +66,7 @@ fn case_answer(
 ) -> Answer
     requires { ⌜ Lent (now one) (now two) (now spare) (case .end) ⌝ }
     requires { ⌜ Parted (now spare) (case .middle) (case .end) ⌝ }
-    ensures { λ r. ⌜ r .count ≤ 36 ⌝ }
+    ensures { λ r. ⌜ r .count ≤ 42 ⌝ }
 {
     let front = case.front;
     let back = case.back;
@@ -91,7 +91,7 @@ pub fn call_answer(
     two: &mut [u32],
     spare: &mut [u32],
 ) -> Answer
-    ensures { λ r. ⌜ r .count ≤ 36 ⌝ }
+    ensures { λ r. ⌜ r .count ≤ 42 ⌝ }
 {
     let case = take_case(line, at, call.shape(), one, two, spare);
     if !case.is_right {

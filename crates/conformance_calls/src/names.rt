@@ -22,8 +22,8 @@ pub enum Call {
 }
 
 fn taking(front: usize, lists: usize, back: usize) -> Shape
-    requires { ⌜ (front ≤ 20) × (back ≤ 20) ⌝ }
-    ensures { λ r. ⌜ (r .front ≤ 20) × (r .back ≤ 20) ⌝ }
+    requires { ⌜ (front ≤ 26) × (back ≤ 26) ⌝ }
+    ensures { λ r. ⌜ (r .front ≤ 26) × (r .back ≤ 26) ⌝ }
 {
     Shape { front, lists, back }
 }
@@ -74,24 +74,24 @@ impl Call {
         Call::Unknown
     }
 
-    // G is three numbers and D thirteen.
+    // G is three numbers and D nineteen.
     pub fn shape(self) -> Shape
-        ensures { λ r. ⌜ (r .front ≤ 20) × (r .back ≤ 20) ⌝ }
+        ensures { λ r. ⌜ (r .front ≤ 26) × (r .back ≤ 26) ⌝ }
     {
         match self {
             Call::Compare => taking(2, 0, 0),
-            Call::Possible => taking(16, 0, 0),
-            Call::Protected => taking(19, 0, 0),
-            Call::Store => taking(19, 0, 0),
-            Call::RegisterRead => taking(17, 0, 0),
-            Call::FlashRead => taking(16, 2, 1),
-            Call::LowerBank => taking(16, 2, 0),
+            Call::Possible => taking(22, 0, 0),
+            Call::Protected => taking(25, 0, 0),
+            Call::Store => taking(25, 0, 0),
+            Call::RegisterRead => taking(23, 0, 0),
+            Call::FlashRead => taking(22, 2, 1),
+            Call::LowerBank => taking(22, 2, 0),
             Call::Page => taking(3, 1, 1),
-            Call::Step => taking(16, 3, 0),
-            Call::Reset => taking(16, 3, 5),
-            Call::StartUp => taking(16, 0, 0),
-            Call::UpdateStart => taking(16, 3, 0),
-            Call::Turn => taking(16, 4, 1),
+            Call::Step => taking(22, 3, 0),
+            Call::Reset => taking(22, 3, 5),
+            Call::StartUp => taking(22, 0, 0),
+            Call::UpdateStart => taking(22, 3, 0),
+            Call::Turn => taking(22, 4, 1),
             Call::Unknown => taking(0, 0, 0),
         }
     }

@@ -19,13 +19,13 @@ pub struct Shape {
 // the first ends, and the last starts, at `middle`.
 pub struct Case {
     pub is_right: bool,
-    pub front: [u32; 20],
+    pub front: [u32; 26],
     pub lists: usize,
     pub one: usize,
     pub two: usize,
     pub middle: usize,
     pub end: usize,
-    pub back: [u32; 20],
+    pub back: [u32; 26],
 }
 
 // The lists after the banks: whether they are there, where they end in the line, and where in the spare buffer.
@@ -73,7 +73,7 @@ pub fn take_case(
     two: &mut [u32],
     spare: &mut [u32],
 ) -> Case
-    requires { ⌜ (shape .front ≤ 20) × (shape .back ≤ 20) ⌝ }
+    requires { ⌜ (shape .front ≤ 26) × (shape .back ≤ 26) ⌝ }
     ensures { λ r. ⌜ Read (now (one .exit)) (now (two .exit)) (now (spare .exit)) r ⌝ }
 {
     let first = take(line, at, shape.front);

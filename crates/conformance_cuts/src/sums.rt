@@ -1,6 +1,7 @@
 // Sums of words in their order, modulo a prime above every word: another word at one index is another sum.
 use crate::updates::Ended;
 use device::record::Device;
+use device::record::Operands;
 use device::record::register;
 
 const PRIME: u64 = 4294967311;
@@ -31,7 +32,14 @@ fn with_words(sum: u64, words: &[u32]) -> u64 {
     longer
 }
 
-// The sum with the registers by their numbers, the key step and the step number.
+// The sum with what was launched, in the order of its registers.
+fn with_operands(sum: u64, o: Operands) -> u64 {
+    let data = o.nvmdata;
+    let address = with_word(sum, o.nvmaddr);
+    with_word(with_words(address, &data), o.nvmsrcaddr)
+}
+
+// The sum with the registers by their numbers, the key step, the step number and what was launched.
 fn with_device(sum: u64, d: Device) -> u64 {
     let mut longer = sum;
     let mut number = 0;
@@ -39,7 +47,8 @@ fn with_device(sum: u64, d: Device) -> u64 {
         longer = with_word(longer, register(d, number));
         number += 1;
     }
-    with_word(with_word(longer, d.keystep), d.step)
+    let stepped = with_word(with_word(longer, d.keystep), d.step);
+    with_operands(stepped, d.launched)
 }
 
 impl Sums {

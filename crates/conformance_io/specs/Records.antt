@@ -13,7 +13,7 @@ inputOf words i = getD words i 0
 abbrev pub geometryOf : List ℕ → Geometry
 geometryOf words = record { q = inputOf words 0; b = inputOf words 1; p = inputOf words 2 }
 
--- "the eleven registers in the order of their numbers, the key step, the step number"
+-- "the eleven registers in the order of their numbers, the key step, the step number", and "the launched NVMADDR, NVMDATA0 to 3, NVMSRCADDR"
 abbrev pub deviceOf : List ℕ → Device
 deviceOf words =
     record {
@@ -27,4 +27,10 @@ deviceOf words =
       nvmcon2 = record { 0 = inputOf words 13 };
       keystep = inputOf words 14;
       step = inputOf words 15;
+      launched =
+          record {
+            nvmaddr = inputOf words 16;
+            nvmdata = inputOf words 17 ∷ inputOf words 18 ∷ inputOf words 19 ∷ inputOf words 20 ∷ [];
+            nvmsrcaddr = inputOf words 21;
+          };
     }

@@ -6,7 +6,7 @@ ghost use Prim.Native.Nat.{_+_, _<_};
 // The numbers of an answer; none where the line is no case.
 pub struct Answer {
     pub count: usize,
-    pub words: [u32; 36],
+    pub words: [u32; 42],
 }
 
 impl Answer {
@@ -15,13 +15,13 @@ impl Answer {
     {
         Answer {
             count: 0,
-            words: [0; 36],
+            words: [0; 42],
         }
     }
 
     // The answer with one more number. Callers show that there is room.
     pub fn with(mut self, word: u32) -> Answer
-        requires { ⌜ self .count < 36 ⌝ }
+        requires { ⌜ self .count < 42 ⌝ }
         ensures { λ r. ⌜ r .count ≡ self .count + 1 ⌝ }
     {
         let at = self.count;
@@ -32,7 +32,7 @@ impl Answer {
 
     // The answer with 1 or 0 after it.
     pub fn with_flag(self, flag: bool) -> Answer
-        requires { ⌜ self .count < 36 ⌝ }
+        requires { ⌜ self .count < 42 ⌝ }
         ensures { λ r. ⌜ r .count ≡ self .count + 1 ⌝ }
     {
         if flag {

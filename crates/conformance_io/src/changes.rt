@@ -39,8 +39,8 @@ fn changes_of(line: &[u8], at: usize, one: &[u32], two: &[u32], spare: &mut [u32
 
 // An answer with changes after it: how many there are, and then each.
 fn with_all(answer: Answer, changes: Answer) -> Answer
-    requires { ⌜ (answer .count ≤ 17) × (changes .count ≤ 15) ⌝ }
-    ensures { λ r. ⌜ r .count ≤ 36 ⌝ }
+    requires { ⌜ (answer .count ≤ 23) × (changes .count ≤ 15) ⌝ }
+    ensures { λ r. ⌜ r .count ≤ 42 ⌝ }
 {
     let words = changes.words;
     let mut longer = answer.with((changes.count / 3) as u32);
@@ -61,10 +61,10 @@ pub fn with_changes(
     two: &[u32],
     spare: &mut [u32],
 ) -> Answer
-    requires { ⌜ answer .count ≤ 17 ⌝ }
+    requires { ⌜ answer .count ≤ 23 ⌝ }
     requires { ⌜ Room (now one) (now spare) ⌝ }
     requires { ⌜ Room (now two) (now spare) ⌝ }
-    ensures { λ r. ⌜ r .count ≤ 36 ⌝ }
+    ensures { λ r. ⌜ r .count ≤ 42 ⌝ }
 {
     if answer.count == 1 {
         return answer;

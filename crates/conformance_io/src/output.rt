@@ -68,7 +68,7 @@ fn wide(number: u32) -> u64 {
 // The numbers of an answer after its first, each after a blank.
 fn put_rest(out: &mut [u8], used: usize, answer: Answer) -> usize
     requires { ⌜ Used (now out) used ⌝ }
-    requires { ⌜ answer .count ≤ 36 ⌝ }
+    requires { ⌜ answer .count ≤ 42 ⌝ }
     ensures { λ r. ⌜ Used (now (out .exit)) r ⌝ }
 {
     let words = answer.words;
@@ -84,7 +84,7 @@ fn put_rest(out: &mut [u8], used: usize, answer: Answer) -> usize
 // An answer on a line of its own.
 pub fn put_answer(out: &mut [u8], used: usize, answer: Answer) -> usize
     requires { ⌜ Used (now out) used ⌝ }
-    requires { ⌜ answer .count ≤ 36 ⌝ }
+    requires { ⌜ answer .count ≤ 42 ⌝ }
     ensures { λ r. ⌜ Used (now (out .exit)) r ⌝ }
 {
     if answer.count == 0 {

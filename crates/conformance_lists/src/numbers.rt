@@ -1,5 +1,5 @@
 // Decimal numbers in a line: each stands after one blank, and ends at the next blank or the end.
-// What asks for at most 20 numbers is no call of the device: its callers show it.
+// What asks for at most 26 numbers is no call of the device: its callers show it.
 ghost use mathlib.Core.Path.{_≡_};
 ghost use Prim.Native.Nat.{_≤_};
 ghost use Rattle.conformance_lists.specs.Numbers.{appendedOf, numberOf};
@@ -14,7 +14,7 @@ const NONE: u64 = 0x1_0000_0000;
 pub struct Taken {
     pub is_right: bool,
     pub next: usize,
-    pub words: [u32; 20],
+    pub words: [u32; 26],
 }
 
 // A number, or NONE, and where it ends.
@@ -77,10 +77,10 @@ fn number_at(line: &[u8], at: usize) -> Parsed
 
 // So many numbers from a position on. It gives a position that is no earlier.
 pub fn take(line: &[u8], at: usize, count: usize) -> Taken
-    requires { ⌜ count ≤ 20 ⌝ }
+    requires { ⌜ count ≤ 26 ⌝ }
     ensures { λ r. ⌜ at ≤ r .next ⌝ }
 {
-    let mut words = [0u32; 20];
+    let mut words = [0u32; 26];
     let mut next = at;
     let mut i = 0;
     while i < count {

@@ -16,9 +16,10 @@ use Rattle.words.proofs.BitLaws.{bit-or, clear-bit}
 use Rattle.words.proofs.MaskLaws.{Within, outside-bit, merge-keeps}
 use Rattle.geometry.specs.declared.banks.Geometry.{Geometry}
 use Rattle.device.specs.declared.record.Device.{Device}
+use Rattle.device.specs.declared.record.Operands.{Operands}
 use Rattle.launch.specs.declared.launch.Launched.{Launched}
 use Rattle.device.specs.Registers.{WRERR, LVDERR}
-use Rattle.device.specs.Record.{registerOf, opOf}
+use Rattle.device.specs.Record.{registerOf, opOf, operandsOf}
 use Rattle.nvmop.specs.Operation.{beginsOf}
 use Rattle.register_fields.specs.Fields.{conTakesOf}
 use Rattle.launch.specs.Launch.{launched, launchOf}
@@ -30,9 +31,9 @@ module _ (g : Geometry) (d : Device) (k : ℕ) (apart : bit k 0xB000 ≡ false) 
   Keeps : Launched → Type 0
   Keeps l = bit k (l .nvmcon) ≡ bit k (d .nvmcon .0)
 
-  keeps-or : (mask : ℕ) (event : Bool) → Within 0xB000 mask → Keeps (launched (bitOr (d .nvmcon .0) mask) event)
+  keeps-or : (mask : ℕ) (event : Bool) (operands : Operands) → Within 0xB000 mask → Keeps (launched (bitOr (d .nvmcon .0) mask) event operands)
   unfolding Keeps
-  keeps-or mask event h = bit-or k (d .nvmcon .0) mask ∙ rw (outside-bit 0xB000 mask k h apart) (or-false (bit k (d .nvmcon .0)))
+  keeps-or mask event operands h = bit-or k (d .nvmcon .0) mask ∙ rw (outside-bit 0xB000 mask k h apart) (or-false (bit k (d .nvmcon .0)))
 
   pub launch-keeps : bit k (launchOf g d .nvmcon) ≡ bit k (d .nvmcon .0)
   unfolding launchOf Keeps
@@ -41,7 +42,8 @@ module _ (g : Geometry) (d : Device) (k : ℕ) (apart : bit k 0xB000 ≡ false) 
       (clear-bit k (d .nvmcon .0) 0x3000 ∙ rw (outside-bit 0xB000 0x3000 k (record { inside = refl }) apart) (and-true (bit k (d .nvmcon .0))))
       (pick-both Keeps (hasOf (d .nvmcon .0) (WRERR + LVDERR)) refl
       (pick-both Keeps (ltb (opOf d) 2 || ltb 7 (opOf d)) refl
-      (pick-both Keeps (beginsOf g d) (keeps-or 0xA000 false (record { inside = refl })) (keeps-or WRERR true (record { inside = refl })))))
+      (pick-both Keeps (beginsOf g d) (keeps-or 0xA000 false (operandsOf d) (record { inside = refl }))
+      (keeps-or WRERR true (d .launched) (record { inside = refl })))))
 
 pub con-keeps : (g : Geometry) (d : Device) (w k : ℕ) → bit k (conTakesOf d) ≡ false → bit k 0xB000 ≡ false
     → bit k (conStoreOf g d w .nvmcon) ≡ bit k (d .nvmcon .0)

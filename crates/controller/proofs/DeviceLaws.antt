@@ -16,12 +16,12 @@ use Rattle.geometry.specs.declared.banks.Geometry.{Geometry}
 use Rattle.device.specs.declared.record.Device.{Device}
 use Rattle.device.specs.Registers.{WR, WRERR, LVDERR, BFSWAP, NVMERS}
 use Rattle.device.specs.Builders.{powerOn, withCon}
-use Rattle.device.specs.Record.{running, bfswap, opOf}
-use Rattle.nvmop.specs.Operation.{beginsOf, lengthOf}
-use Rattle.common_declines.specs.Possible.{runningOf, possibleOf}
-use Rattle.common_declines.proofs.PossibleLaws.{Implemented, Possible, possible, possible-test, same-rows}
+use Rattle.device.specs.Record.{running, bfswap, opOf, noOperands}
+use Rattle.nvmop.specs.Operation.{launchedBeginsOf, lengthOf}
+use Rattle.common_declines.specs.Possible.{launchedFitsOf, nothingLaunchedOf, runningOf, restingOf, possibleOf}
+use Rattle.common_declines.proofs.PossibleLaws.{Implemented, Possible, possible, possible-test, same-rows, same-launched}
 use Rattle.device.specs.declared.answer.Answer.{Answer}
-use Rattle.flash.specs.Step.{advanced, advanceOf}
+use Rattle.flash.specs.Step.{advanced, endedOf, advanceOf}
 use Rattle.resets.specs.Reset.{resetConOf, resetDeviceOf}
 
 -- ---- a step
@@ -30,10 +30,17 @@ module _ (g : Geometry) (d : Device) (can : possibleOf g d ≡ true) (on : runni
   was = possible g d can
 
   -- with WR = 0 and step number 0
-  rested : (con : ℕ) → Within 0xF0CF con → bit 15 con ≡ false → possibleOf g (withCon d con (d .keystep) 0) ≡ true
+  rested : (con : ℕ) → Within 0xF0CF con → bit 15 con ≡ false → possibleOf g (endedOf d con) ≡ true
+  unfolding launchedFitsOf restingOf nothingLaunchedOf
   rested con h off =
-      possible-test g (withCon d con (d .keystep) 0)
-      (record { rows = same-rows d con (d .keystep) 0 h (was .rows); always = was .always; keys = was .keys; runs = rw (has-bit 15 con ∙ off) })
+      possible-test g (endedOf d con)
+      (record {
+        rows = same-launched _ noOperands (same-rows d con (d .keystep) 0 h (was .rows));
+        launched = refl;
+        always = was .always;
+        keys = was .keys;
+        runs = rw (has-bit 15 con ∙ off);
+      })
 
   going : (eqb (d .step + 1) (lengthOf g (opOf d)) ≡ false) → possibleOf g (withCon d (d .nvmcon .0) (d .keystep) (d .step + 1)) ≡ true
   unfolding runningOf
@@ -41,13 +48,14 @@ module _ (g : Geometry) (d : Device) (can : possibleOf g d ≡ true) (on : runni
       let s0 = and-both (eqb (d .keystep) 0) _ (rw on at (was .runs)) in
       let s1 = and-both (hasOf (d .nvmcon .0) WRERR) _ (s0 .1) in
       let s2 = and-both (not (hasOf (d .nvmcon .0) LVDERR)) _ (s1 .1) in
-      let s3 = and-both (beginsOf g d) (ltb (d .step) (lengthOf g (opOf d))) (s2 .1) in
+      let s3 = and-both (launchedBeginsOf g d) (ltb (d .step) (lengthOf g (opOf d))) (s2 .1) in
       let lt : d .step < lengthOf g (opOf d) = ltb-true _ _ (s3 .1) in
       let ne : d .step + 1 ≡ lengthOf g (opOf d) → ⊥ = eqb-false _ _ more in
       let next : d .step + 1 < lengthOf g (opOf d) = omega arith in
       possible-test g (withCon d (d .nvmcon .0) (d .keystep) (d .step + 1))
       (record {
         rows = same-rows d _ (d .keystep) (d .step + 1) (was .rows .con) (was .rows);
+        launched = was .launched;
         always = was .always;
         keys = was .keys;
         runs = rw (on, s0 .0, s1 .0, s2 .0, s3 .0, lt-ltb _ _ next);
@@ -64,7 +72,7 @@ module _ (g : Geometry) (d : Device) (can : possibleOf g d ≡ true) (on : runni
       P a = possibleOf g (a .device) ≡ true
 
       go : (t : Bool) → eqb (d .step + 1) (lengthOf g (opOf d)) ≡ t
-          → P (pick t (advanced (withCon d (clearOf (d .nvmcon .0) (WR + WRERR)) (d .keystep) 0) true)
+          → P (pick t (advanced (endedOf d (clearOf (d .nvmcon .0) (WR + WRERR))) true)
           (advanced (withCon d (d .nvmcon .0) (d .keystep) (d .step + 1)) false))
       go true e = rested (clearOf (d .nvmcon .0) 0xA000) (clear-within 0xF0CF _ 0xA000 (was .rows .con))
           (clear-bit 15 (d .nvmcon .0) 0xA000 ∙ and-false (bit 15 (d .nvmcon .0)))
@@ -85,8 +93,9 @@ fresh-rows =
     }
 
 pub power-on-possible : (g : Geometry) → possibleOf g powerOn ≡ true
+unfolding launchedFitsOf restingOf nothingLaunchedOf
 power-on-possible g =
-    possible-test g powerOn (record { rows = fresh-rows; always = refl; keys = omega arith; runs = refl })
+    possible-test g powerOn (record { rows = fresh-rows; launched = refl; always = refl; keys = omega arith; runs = refl })
 
 module _ (g : Geometry) (d : Device) (can : possibleOf g d ≡ true) (kind : ℕ) (swap : Bool) where
   old : Possible g d
@@ -145,12 +154,16 @@ module _ (g : Geometry) (d : Device) (can : possibleOf g d ≡ true) (kind : ℕ
   unfolding resetDeviceOf con
   reset-swap = pick-both (λ (e : Device). bfswap e ≡ swap) (eqb kind 0) con-swap con-swap
 
-  pub reset-possible : possibleOf g (resetDeviceOf d kind swap) ≡ true
+  pub reset-idle : running (resetDeviceOf d kind swap) ≡ false
   unfolding resetDeviceOf con
+  reset-idle = pick-both (λ (e : Device). running e ≡ false) (eqb kind 0) con-idle con-idle
+
+  pub reset-possible : possibleOf g (resetDeviceOf d kind swap) ≡ true
+  unfolding resetDeviceOf con launchedFitsOf restingOf nothingLaunchedOf
   reset-possible =
       pick-both (λ (e : Device). possibleOf g e ≡ true) (eqb kind 0)
       (possible-test g (withCon powerOn con 0 0)
-      (record { rows = same-rows powerOn con 0 0 con-within fresh-rows; always = refl; keys = omega arith; runs = rw con-idle }))
+      (record { rows = same-rows powerOn con 0 0 con-within fresh-rows; launched = refl; always = refl; keys = omega arith; runs = rw con-idle }))
       (possible-test g _
       (record {
         rows =
@@ -164,6 +177,7 @@ module _ (g : Geometry) (d : Device) (can : possibleOf g d ≡ true) (kind : ℕ
               bwp = record { inside = refl };
               con2 = merge-within 0xF01F_B3C0 NVMERS (d .nvmcon2 .0) 0x001F_0000 (record { inside = refl }) (record { inside = refl });
             };
+        launched = refl;
         always = refl;
         keys = omega arith;
         runs = rw con-idle;

@@ -10,3 +10,5 @@ pub mod RestLaws
 pub mod StartUpLaws
 pub mod Controller
 pub mod ProbeLaws
+pub mod LoadLaws
+pub mod LaunchedLaws

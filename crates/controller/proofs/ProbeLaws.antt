@@ -1,7 +1,7 @@
 -- A register read below key step 2 leaves the state, so a probe's reads anywhere in a list of operations go unseen; before the second key
 -- store they do not keep the key from opening. Assumes nothing.
 use mathlib.Core.Path.{_≡_, refl, sym, ap, _∙_}
-use mathlib.Core.Bool.{Bool, true}
+use mathlib.Core.Bool.{true}
 use mathlib.Core.List.{List, [], _∷_, _++_}
 use Prim.Native.Nat.{ℕ, zero, suc, _≤_}
 use native.Mathlib.Omega.{arith}
@@ -24,7 +24,7 @@ use Rattle.register_access.specs.Store.{storeDeclineOf, storeOf, readDeclineOf,
 use Rattle.register_access.proofs.AcceptedLaws.{AtRest, store-at-rest}
 use Rattle.start_up.specs.StartUp.{startUpStores, startUpOf}
 use Rattle.controller.specs.Controller.{Operation, answerOf, transitionOf, runOf, storeOperations}
-use Rattle.controller.specs.Controller.Operation.{store, registerRead}
+use Rattle.controller.specs.Controller.Operation.{registerRead}
 use Rattle.controller.specs.Probes.{Move, withProbeOf, withoutProbeOf, Polls, answersOf, ownAnswersOf, readsOf, keyStore, keysAmong, Probes}
 use Rattle.controller.specs.Probes.Move.{own, probe}
 use Rattle.controller.proofs.RunLaws.{by-read, run-append}
@@ -144,7 +144,7 @@ keys-among g s rest before between =
 
 module _ (g : Geometry) (s : State) (on : acceptedOf (storeDeclineOf g (s .device) NVMKEY plain) ≡ true) where
   rest : AtRest g (s .device)
-  rest = store-at-rest g (s .device) NVMKEY plain on .0
+  rest = store-at-rest g (s .device) NVMKEY plain refl on
 
   opens : (before between : List ℕ) → isOpen (runOf g s (keysAmong before between) .device) ≡ true
   opens before between = ap (λ (t : State). isOpen (t .device)) (keys-among g s rest before between)

@@ -129,5 +129,5 @@ unprotected g s sram runs h = go (l .program) refl (not-blocked g s sram h)
 
     go : (t : Bool) → l .program ≡ t → pick (l .program) false (bootProtectedOf d (l .upper) (pageOf g l)) ≡ false
         → pick (l .program) (programProtectedOf (pwpOf d) (pageOffsetOf g (l .upper) (pageOf g l))) (bootProtectedOf d (l .upper) (pageOf g l)) ≡ false
-    go true e b = rw e (step-free g (runs .range) (pwpOf d) (opOf d) (d .nvmaddr) (d .step) (runs .begins) (runs .below) e)
+    go true e b = rw e (step-free g (runs .range) (pwpOf d) (opOf d) (d .launched .nvmaddr) (d .step) (runs .begins) (runs .below) e)
     go false e b = rw e (rw e at b)

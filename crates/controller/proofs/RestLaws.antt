@@ -12,7 +12,7 @@ use Rattle.words.proofs.BitLaws.{bit-or, bit-xor, clear-bit, has-bit}
 use Rattle.geometry.specs.declared.banks.Geometry.{Geometry}
 use Rattle.device.specs.declared.record.Device.{Device}
 use Rattle.device.specs.Registers.{WR}
-use Rattle.device.specs.Builders.{withCon}
+use Rattle.device.specs.Builders.{withCon, withLaunched}
 use Rattle.device.specs.Record.{registerOf, running}
 use Rattle.register_fields.specs.Fields.{wantedOf, conTakesOf}
 use Rattle.register_access.specs.Store.{hasFormOf, appliedOf, accepted, storeAcceptedOf, storeOf}
@@ -51,7 +51,8 @@ module _ (g : Geometry) (d : Device) (rest : AtRest g d) where
       con e = rw e
 
       idle : (t : Bool) → eqb r 0 ≡ t → (t && launchesOf d (wantedOf form (d .nvmcon .0) value)) ≡ false
-          → running (pick t (accepted (withCon d (conStoreOf g d w .nvmcon) 0 (d .step)) (conStoreOf g d w .event))
+          → let l = conStoreOf g d w in
+          running (pick t (accepted (withLaunched (withCon d (l .nvmcon) 0 (d .step)) (l .operands)) (l .event))
           (accepted (appliedOf d r w) false) .device) ≡ false
       idle true e off = con-idle w (ap (λ (x : ℕ). launchesOf d (wantedOf form x value)) (con e) ∙ off)
       idle false e off = rest .idle

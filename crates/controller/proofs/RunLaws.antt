@@ -65,7 +65,7 @@ unfolding registerReadOf
 read-answers g d r on = rw on on
 
 -- ---- the state stays sound
-transition-possible : (g : Geometry) (s : State) (o : Operation) → BringsWord o → possibleOf g (s .device) ≡ true
+pub transition-possible : (g : Geometry) (s : State) (o : Operation) → BringsWord o → possibleOf g (s .device) ≡ true
     → possibleOf g (transitionOf g s o .device) ≡ true
 transition-possible g s (store r form value) w h =
     by-store g (s .device) r form value (λ a. possibleOf g (a .device) ≡ true) (store-possible g (s .device) r form value w) (λ off. h)

@@ -13,7 +13,7 @@ use Rattle.geometry.specs.declared.banks.Geometry.{Geometry}
 use Rattle.words.specs.Decline.{acceptedOf}
 use Rattle.device.specs.declared.record.Device.{Device}
 use Rattle.device.specs.Record.{bfswap}
-use Rattle.register_access.specs.Store.{hasFormOf, storeDeclineOf, storeOf}
+use Rattle.register_access.specs.Store.{hasFormOf, loadsOf, storeDeclineOf, storeOf}
 use Rattle.start_up.specs.StartUp.{Access, access, storesOf, keyStores, startUpStores, startUpDeclineOf, startUpOf}
 use Rattle.register_access.proofs.AcceptedLaws.{store-at-rest, rest-opens}
 use Rattle.start_up.proofs.StartUpLaws.{start-up-at-rest}
@@ -45,21 +45,35 @@ stores-words : (d : Device) → BringWords (storeOperations (startUpStores d))
 stores-words d = stores-bring (startUpStores d) (stores-no-launch d)
 
 -- ---- a declined start-up
--- where a start-up is declined so is every store
-store-declined : (g : Geometry) (d : Device) (r form : ℕ) → acceptedOf (startUpDeclineOf g d) ≡ false → acceptedOf (storeDeclineOf g d r form) ≡ false
+-- where a start-up is declined so is every store to another register than 2 to 7
+store-declined : (g : Geometry) (d : Device) (r form : ℕ) → loadsOf r ≡ false → acceptedOf (startUpDeclineOf g d) ≡ false
+    → acceptedOf (storeDeclineOf g d r form) ≡ false
 unfolding startUpDeclineOf
-store-declined g d r form off = go (acceptedOf (storeDeclineOf g d r form)) refl
+store-declined g d r form other off = go (acceptedOf (storeDeclineOf g d r form)) refl
   where
     go : (t : Bool) → acceptedOf (storeDeclineOf g d r form) ≡ t → t ≡ false
     go true on =
-        let rest = store-at-rest g d r form on .0 in
+        let rest = store-at-rest g d r form other on in
         true-not-false (sym (rw (rest-opens g d rest, rest .idle)) ∙ off)
     go false e = refl
 
-stores-declined : (g : Geometry) (d : Device) → acceptedOf (startUpDeclineOf g d) ≡ false → (l : List Access) → storesOf g d l ≡ d
+-- none of these stores is to registers 2 to 7
+abbrev NoLoads : List Access → Type 0
+NoLoads [] = Unit {0}
+NoLoads (a ∷ rest) = (loadsOf (a .register) ≡ false) × NoLoads rest
+
+start-up-loads-none : (d : Device) → NoLoads (startUpStores d)
+unfolding startUpStores
+start-up-loads-none d = go (bfswap d)
+  where
+    go : (t : Bool) → NoLoads (pick t (keyStores ++ access 0 2 0x80 ∷ []) [] ++ access 10 2 0xC0 ∷ [])
+    go true = (refl, (refl, (refl, (refl, (refl, tt)))))
+    go false = (refl, tt)
+
+stores-declined : (g : Geometry) (d : Device) → acceptedOf (startUpDeclineOf g d) ≡ false → (l : List Access) → NoLoads l → storesOf g d l ≡ d
 unfolding storeOf
-stores-declined g d off [] = refl
-stores-declined g d off (a ∷ l) = rw (store-declined g d (a .register) (a .form) off) (stores-declined g d off l)
+stores-declined g d off [] other = refl
+stores-declined g d off (a ∷ l) other = rw (store-declined g d (a .register) (a .form) (other .0) off) (stores-declined g d off l (other .1))
 
 -- ---- the whole
 pub start-up-runs : (g : Geometry) (s : State)
@@ -71,7 +85,7 @@ start-up-runs g s = go (acceptedOf (startUpDeclineOf g (s .device))) refl ∙ st
         → state (pick t (storesOf g (s .device) (startUpStores (s .device))) (s .device)) (s .one) (s .two)
         ≡ state (storesOf g (s .device) (startUpStores (s .device))) (s .one) (s .two)
     go true e = refl
-    go false e = rw (stores-declined g (s .device) e (startUpStores (s .device)))
+    go false e = rw (stores-declined g (s .device) e (startUpStores (s .device)) (start-up-loads-none (s .device)))
 
 pub start-up-accepted : (g : Geometry) (s : State) → acceptedOf (startUpOf g (s .device) .decline) ≡ true
     → AllAccepted g s (storeOperations (startUpStores (s .device)))

@@ -2,7 +2,6 @@
 -- Assumes nothing.
 use mathlib.Core.Path.{_≡_, refl, sym, ap, _∙_}
 use mathlib.Core.Bool.{Bool, true, false, or-true}
-use mathlib.Core.List.{List}
 use Prim.Native.Nat.{ℕ, _+_, _≤_, _<_}
 use native.Mathlib.Omega.{arith}
 use lib.ListN.{set}
@@ -18,72 +17,27 @@ use Rattle.device.specs.declared.record.Device.{Device}
 use Rattle.launch.specs.declared.launch.Launched.{Launched}
 use Rattle.device.specs.declared.answer.Answer.{Answer}
 use Rattle.device.specs.Registers.{WR, WREN, WRERR, LVDERR, NVMOP, LBWPULOCK, UBWPULOCK}
-use Rattle.device.specs.Builders.{withCon}
-use Rattle.device.specs.Record.{registerOf, isOpen, opOf}
+use Rattle.device.specs.Builders.{withCon, withLaunched, withAddress, withData, withBwp}
+use Rattle.device.specs.Record.{registerOf, isOpen, opOf, operandsOf}
 use Rattle.nvmop.specs.Operation.{beginsOf}
+use Rattle.common_declines.specs.Possible.{restingOf}
 use Rattle.register_fields.specs.Fields.{wantedOf, keyNextOf, conTakesOf, bwpTakesOf, lowerTakesOf}
 use Rattle.launch.specs.Launch.{launched, launchOf}
-use Rattle.register_access.specs.Store.{hasFormOf, storeDeclineOf, appliedOf, accepted, storeAcceptedOf, storeOf}
+use Rattle.register_access.specs.Store.{hasFormOf, mayStoreOf, storeDeclineOf, appliedOf, accepted, storeAcceptedOf, storeOf}
 use Rattle.launch.specs.ConStore.{launchesOf, conStoreOf}
 use Rattle.start_up.specs.StartUp.{storesOf, keyStores}
 use Rattle.register_fields.proofs.FieldLaws.{con-takes-wren, con-takes-enabled, con-takes-shut}
 use Rattle.register_access.proofs.AcceptedLaws.{AtRest, rest-opens}
-use Rattle.common_declines.proofs.PossibleLaws.{possible, possible-test, same-rows}
-
--- the device with another NVMADDR, NVMDATA or NVMBWP, and the key shut
-abbrev pub withAddress : Device → ℕ → Device
-withAddress d address =
-    record {
-      nvmcon = d .nvmcon;
-      nvmkey = d .nvmkey;
-      nvmaddr = address;
-      nvmdata = d .nvmdata;
-      nvmsrcaddr = d .nvmsrcaddr;
-      nvmpwp = d .nvmpwp;
-      nvmbwp = d .nvmbwp;
-      nvmcon2 = d .nvmcon2;
-      keystep = 0;
-      step = d .step;
-    }
-
-abbrev pub withData : Device → List ℕ → Device
-withData d quad =
-    record {
-      nvmcon = d .nvmcon;
-      nvmkey = d .nvmkey;
-      nvmaddr = d .nvmaddr;
-      nvmdata = quad;
-      nvmsrcaddr = d .nvmsrcaddr;
-      nvmpwp = d .nvmpwp;
-      nvmbwp = d .nvmbwp;
-      nvmcon2 = d .nvmcon2;
-      keystep = 0;
-      step = d .step;
-    }
-
-abbrev pub withBwp : Device → ℕ → Device
-withBwp d bwp =
-    record {
-      nvmcon = d .nvmcon;
-      nvmkey = d .nvmkey;
-      nvmaddr = d .nvmaddr;
-      nvmdata = d .nvmdata;
-      nvmsrcaddr = d .nvmsrcaddr;
-      nvmpwp = d .nvmpwp;
-      nvmbwp = record { 0 = bwp };
-      nvmcon2 = d .nvmcon2;
-      keystep = 0;
-      step = d .step;
-    }
+use Rattle.common_declines.proofs.PossibleLaws.{possible, possible-test, resting, same-rows}
 
 -- ---- the launch
 module _ (g : Geometry) (d : Device) where
-  pub launch-clears : opOf d ≡ 0 → launchOf g d ≡ launched (clearOf (d .nvmcon .0) (WRERR + LVDERR)) false
+  pub launch-clears : opOf d ≡ 0 → launchOf g d ≡ launched (clearOf (d .nvmcon .0) (WRERR + LVDERR)) false (d .launched)
   unfolding launchOf
   launch-clears op = rw op
 
   pub launch-begins : 2 ≤ opOf d → opOf d ≤ 7 → hasOf (d .nvmcon .0) (WRERR + LVDERR) ≡ false → beginsOf g d ≡ true
-      → launchOf g d ≡ launched (bitOr (d .nvmcon .0) (WR + WRERR)) false
+      → launchOf g d ≡ launched (bitOr (d .nvmcon .0) (WR + WRERR)) false (operandsOf d)
   unfolding launchOf
   launch-begins lo hi clean begins =
       rw (
@@ -97,7 +51,7 @@ module _ (g : Geometry) (d : Device) where
 module _ (g : Geometry) (d : Device) (rest : AtRest g d) where
   -- a store at rest is carried out
   pub store-accepted : (r form : ℕ) → hasFormOf r form ≡ true → acceptedOf (storeDeclineOf g d r form) ≡ true
-  unfolding storeDeclineOf
+  unfolding storeDeclineOf mayStoreOf
   store-accepted r form ok = rw (rest-opens g d rest, ok, rest .idle)
 
   pub store-runs : (r form value : ℕ) → hasFormOf r form ≡ true → storeOf g d r form value ≡ storeAcceptedOf g d r form value
@@ -134,16 +88,16 @@ module _ (g : Geometry) (d : Device) (rest : AtRest g d) where
       takes false = record { inside = refl }
 
   -- ---- NVMCON
-  con-store : (form value : ℕ) → hasFormOf 0 form ≡ true
+  pub con-store : (form value : ℕ) → hasFormOf 0 form ≡ true
       → let l = conStoreOf g d (wantedOf form (d .nvmcon .0) value) in
-      storeOf g d 0 form value ≡ accepted (withCon d (l .nvmcon) 0 (d .step)) (l .event)
+      storeOf g d 0 form value ≡ accepted (withLaunched (withCon d (l .nvmcon) 0 (d .step)) (l .operands)) (l .event)
   unfolding storeAcceptedOf registerOf
   con-store form value ok = store-runs 0 form value ok
 
   pub wr-off : bit 15 (d .nvmcon .0) ≡ false
   wr-off = sym (has-bit 15 (d .nvmcon .0)) ∙ rest .idle
 
-  no-launch : (w : ℕ) → bit 15 w ≡ false → conStoreOf g d w ≡ launched (mergeOf (conTakesOf d) w (d .nvmcon .0)) false
+  no-launch : (w : ℕ) → bit 15 w ≡ false → conStoreOf g d w ≡ launched (mergeOf (conTakesOf d) w (d .nvmcon .0)) false (d .launched)
   unfolding conStoreOf launchesOf
   no-launch w off = rw (has-bit 15 w ∙ off)
 
@@ -153,8 +107,8 @@ module _ (g : Geometry) (d : Device) (rest : AtRest g d) where
       → storeOf g d 0 form value ≡ accepted (withCon d con 0 (d .step)) false
   taken form value con ok off e =
       con-store form value ok
-      ∙ ap (λ (l : Launched). accepted (withCon d (l .nvmcon) 0 (d .step)) (l .event))
-      (no-launch (wantedOf form (d .nvmcon .0) value) off ∙ ap (λ (x : ℕ). launched x false) e)
+      ∙ ap (λ (l : Launched). accepted (withLaunched (withCon d (l .nvmcon) 0 (d .step)) (l .operands)) (l .event))
+      (no-launch (wantedOf form (d .nvmcon .0) value) off ∙ ap (λ (x : ℕ). launched x false (d .launched)) e)
 
   pub clear-wren : storeOf g d 0 1 0x4000 ≡ accepted (withCon d (clearOf (d .nvmcon .0) WREN) 0 (d .step)) false
   unfolding hasFormOf
@@ -176,11 +130,11 @@ module _ (g : Geometry) (d : Device) (rest : AtRest g d) where
       (ap (λ (t : ℕ). mergeOf t op (d .nvmcon .0)) (con-takes-shut d off shut))
 
   pub launch-store : hasOf (d .nvmcon .0) WREN ≡ true → isOpen d ≡ true
-      → storeOf g d 0 2 0x8000 ≡ accepted (withCon d (launchOf g d .nvmcon) 0 (d .step)) (launchOf g d .event)
+      → let l = launchOf g d in storeOf g d 0 2 0x8000 ≡ accepted (withLaunched (withCon d (l .nvmcon) 0 (d .step)) (l .operands)) (l .event)
   unfolding hasFormOf conStoreOf launchesOf
   launch-store enabled key =
       con-store 2 0x8000 refl
-      ∙ ap (λ (l : Launched). accepted (withCon d (l .nvmcon) 0 (d .step)) (l .event))
+      ∙ ap (λ (l : Launched). accepted (withLaunched (withCon d (l .nvmcon) 0 (d .step)) (l .operands)) (l .event))
       (rw (has-bit 15 (bitOr (d .nvmcon .0) WR) ∙ bit-or 15 (d .nvmcon .0) WR ∙ or-true (bit 15 (d .nvmcon .0)), enabled, key)
       (ap (λ (c : ℕ). launchOf g (withCon d c (d .keystep) (d .step)))
       (ap (λ (t : ℕ). mergeOf t (bitOr (d .nvmcon .0) WR) (d .nvmcon .0)) (con-takes-enabled d enabled)
@@ -188,6 +142,7 @@ module _ (g : Geometry) (d : Device) (rest : AtRest g d) where
 
   -- a device at rest stays at rest with another key step
   pub key-rest : (k : ℕ) → k ≤ 3 → AtRest g (withCon d (d .nvmcon .0) k (d .step))
+  unfolding restingOf
   key-rest k l =
       let old = possible g d (rest .possible) in
       record {
@@ -197,9 +152,10 @@ module _ (g : Geometry) (d : Device) (rest : AtRest g d) where
             possible-test g (withCon d (d .nvmcon .0) k (d .step))
             (record {
               rows = same-rows d _ k (d .step) (old .rows .con) (old .rows);
+              launched = old .launched;
               always = old .always;
               keys = l;
-              runs = rw (rest .idle) (rw (rest .idle) at (old .runs));
+              runs = rw (rest .idle) (resting g d (rest .possible) (rest .idle));
             });
         idle = rest .idle;
       }

@@ -1,3 +1,4 @@
 pub mod Protection
 pub mod Controller
 pub mod Probes
+pub mod Loads

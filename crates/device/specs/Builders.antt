@@ -3,6 +3,8 @@ use Prim.Native.Nat.{ℕ}
 use mathlib.Core.List.{List, [], _∷_}
 use lib.ListN.{getD}
 use Rattle.device.specs.declared.record.Device.{Device}
+use Rattle.device.specs.declared.record.Operands.{Operands}
+use Rattle.device.specs.Record.{noOperands}
 use Rattle.device.specs.Registers.{resets}
 use Rattle.device.specs.Numbers.{NVMCON, NVMKEY, NVMADDR, NVMDATA0, NVMDATA1, NVMDATA2, NVMDATA3, NVMSRCADDR, NVMPWP, NVMBWP, NVMCON2}
 
@@ -20,6 +22,7 @@ powerOn =
       nvmcon2 = record { 0 = getD resets NVMCON2 0 };
       keystep = 0;
       step = 0;
+      launched = noOperands;
     }
 
 -- the device with another NVMCON, key step and step number
@@ -36,6 +39,7 @@ withCon d con keystep step =
       nvmcon2 = d .nvmcon2;
       keystep = keystep;
       step = step;
+      launched = d .launched;
     }
 
 -- the device with other registers beside NVMCON and NVMKEY, and another key step
@@ -52,6 +56,41 @@ withStored d address quad source pwp bwp con2 keystep =
       nvmcon2 = record { 0 = con2 };
       keystep = keystep;
       step = d .step;
+      launched = d .launched;
+    }
+
+-- the device with other operands of the running operation
+abbrev pub withLaunched : Device → Operands → Device
+withLaunched d launched =
+    record {
+      nvmcon = d .nvmcon;
+      nvmkey = d .nvmkey;
+      nvmaddr = d .nvmaddr;
+      nvmdata = d .nvmdata;
+      nvmsrcaddr = d .nvmsrcaddr;
+      nvmpwp = d .nvmpwp;
+      nvmbwp = d .nvmbwp;
+      nvmcon2 = d .nvmcon2;
+      keystep = d .keystep;
+      step = d .step;
+      launched = launched;
+    }
+
+-- the device with other values of registers 2 to 7
+abbrev pub withOperands : Device → Operands → Device
+withOperands d operands =
+    record {
+      nvmcon = d .nvmcon;
+      nvmkey = d .nvmkey;
+      nvmaddr = operands .nvmaddr;
+      nvmdata = operands .nvmdata;
+      nvmsrcaddr = operands .nvmsrcaddr;
+      nvmpwp = d .nvmpwp;
+      nvmbwp = d .nvmbwp;
+      nvmcon2 = d .nvmcon2;
+      keystep = d .keystep;
+      step = d .step;
+      launched = d .launched;
     }
 
 -- with another NVMADDR, NVMDATA or NVMBWP, and the key shut

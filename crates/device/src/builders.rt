@@ -1,7 +1,9 @@
 // The device after a change of some of its registers.
 ghost use mathlib.Core.Path.{_≡_};
-ghost use Rattle.device.specs.Builders.{powerOn, withCon};
+ghost use Rattle.device.specs.Builders.{powerOn, withCon, withLaunched};
+ghost use Rattle.device.specs.Record.{operandsOf, noOperands};
 use crate::record::Device;
+use crate::record::Operands;
 use crate::registers::NVMADDR;
 use crate::registers::NVMDATA0;
 use crate::registers::NVMDATA1;
@@ -15,6 +17,29 @@ use crate::registers::Nvmcon2;
 use crate::registers::Nvmpwp;
 use crate::registers::reset_value;
 
+// What registers 2 to 7 hold.
+pub fn operands(d: Device) -> Operands
+    ensures { λ r. ⌜ r ≡ operandsOf d ⌝ }
+{
+    let nvmdata = d.nvmdata;
+    Operands {
+        nvmaddr: d.nvmaddr,
+        nvmdata,
+        nvmsrcaddr: d.nvmsrcaddr,
+    }
+}
+
+// What was launched while no operation runs.
+pub fn no_operands() -> Operands
+    ensures { λ r. ⌜ r ≡ noOperands ⌝ }
+{
+    Operands {
+        nvmaddr: 0,
+        nvmdata: [0; 4],
+        nvmsrcaddr: 0,
+    }
+}
+
 // The device after power-on, before the comparison of the banks.
 pub fn power_on() -> Device
     ensures { λ r. ⌜ r ≡ powerOn ⌝ }
@@ -23,6 +48,7 @@ pub fn power_on() -> Device
     let nvmpwp = Nvmpwp::new(reset_value(Nvmpwp::NUMBER));
     let nvmbwp = Nvmbwp::new(reset_value(Nvmbwp::NUMBER));
     let nvmcon2 = Nvmcon2::new(reset_value(Nvmcon2::NUMBER));
+    let launched = no_operands();
     Device {
         nvmcon,
         nvmkey: reset_value(NVMKEY),
@@ -39,6 +65,7 @@ pub fn power_on() -> Device
         nvmcon2,
         keystep: 0,
         step: 0,
+        launched,
     }
 }
 
@@ -51,5 +78,14 @@ pub fn with_con(d: Device, con: u32, keystep: u32, step: u32) -> Device
     e.nvmcon = nvmcon;
     e.keystep = keystep;
     e.step = step;
+    e
+}
+
+// The device with other operands of the running operation.
+pub fn with_launched(d: Device, launched: Operands) -> Device
+    ensures { λ r. ⌜ r ≡ withLaunched d launched ⌝ }
+{
+    let mut e = d;
+    e.launched = launched;
     e
 }

@@ -13,7 +13,15 @@ use crate::registers::Nvmcon;
 use crate::registers::Nvmcon2;
 use crate::registers::Nvmpwp;
 
-// The eleven registers, the key step and the step number of the running operation.
+// What an operation works with: an address, four words of data and the address of a row's data.
+#[repr(C)]
+pub struct Operands {
+    pub nvmaddr: u32,
+    pub nvmdata: [u32; 4],
+    pub nvmsrcaddr: u32,
+}
+
+// The eleven registers, the key step, and of the running operation the step number and what it was launched with.
 #[repr(C)]
 pub struct Device {
     pub nvmcon: Nvmcon,
@@ -26,6 +34,7 @@ pub struct Device {
     pub nvmcon2: Nvmcon2,
     pub keystep: u32,
     pub step: u32,
+    pub launched: Operands,
 }
 
 // A register by its number, and 0 where there is none.

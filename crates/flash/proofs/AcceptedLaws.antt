@@ -17,7 +17,7 @@ use Rattle.device.specs.declared.record.Device.{Device}
 use Rattle.device.specs.declared.answer.Answer.{Answer}
 use Rattle.device.specs.Registers.{WRERR, LVDERR}
 use Rattle.device.specs.Record.{running, opOf}
-use Rattle.nvmop.specs.Operation.{beginsOf, lengthOf}
+use Rattle.nvmop.specs.Operation.{launchedBeginsOf, lengthOf}
 use Rattle.common_declines.specs.Possible.{runningOf, possibleOf}
 use Rattle.common_declines.specs.CommonDecline.{commonDeclineOf}
 use Rattle.common_declines.proofs.PossibleLaws.{possible}
@@ -41,7 +41,7 @@ module _ (g : Geometry) (d : Device) where
       let s0 = and-both (eqb (d .keystep) 0) _ (rw on at (possible g d can .runs)) in
       let s1 = and-both (hasOf (d .nvmcon .0) WRERR) _ (s0 .1) in
       let s2 = and-both (not (hasOf (d .nvmcon .0) LVDERR)) _ (s1 .1) in
-      let s3 = and-both (beginsOf g d) (ltb (d .step) (lengthOf g (opOf d))) (s2 .1) in
+      let s3 = and-both (launchedBeginsOf g d) (ltb (d .step) (lengthOf g (opOf d))) (s2 .1) in
       record { range = ok; begins = s3 .0; below = ltb-true _ _ (s3 .1) }
 
   pub step-ready : (one two sram : ℕ) → acceptedOf (stepDeclineOf g d one two sram) ≡ true

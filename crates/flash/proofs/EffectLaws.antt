@@ -114,7 +114,7 @@ module _ (g : Geometry) (d : Device) (runs : Runs g d) where
 
   pub runs-room : stepLocationOf g d .offset + 16 ≤ windowBytesOf g (stepLocationOf g d .program)
   unfolding Room
-  runs-room = step-room g (runs .range) (opOf d) (d .nvmaddr) (pwpOf d) (d .step) (runs .begins) (runs .below)
+  runs-room = step-room g (runs .range) (opOf d) (d .launched .nvmaddr) (pwpOf d) (d .step) (runs .begins) (runs .below)
 
   pub runs-in-bank : 4 * quadIndexOf g (stepLocationOf g d) + 4 ≤ bankWordsOf g
   runs-in-bank = quad-in-bank g (runs .range) (stepLocationOf g d) (omega (arith, runs-room))
@@ -123,14 +123,14 @@ module _ (g : Geometry) (d : Device) (runs : Runs g d) where
   window-high true = omega (arith, runs .range .program-high)
   window-high false = omega (arith, runs .range .boot-high)
 
-  pub target-fits : opOf d < 5 → targetOf g (opOf d) (d .nvmaddr) .offset + 16 * d .step < 2 ^ 32
+  pub target-fits : opOf d < 5 → targetOf g (opOf d) (d .launched .nvmaddr) .offset + 16 * d .step < 2 ^ 32
   unfolding stepAtOf
-  target-fits l = omega (arith, rw (lt-ltb (opOf d) 5 l) at runs-room, window-high (targetOf g (opOf d) (d .nvmaddr) .program))
+  target-fits l = omega (arith, rw (lt-ltb (opOf d) 5 l) at runs-room, window-high (targetOf g (opOf d) (d .launched .nvmaddr) .program))
 
 -- a source that fits lies in the SRAM
 pub source-room : (d : Device) (sram : ℕ) → sourceFitsOf d sram ≡ true → sourceWordOf d + 4 ≤ sram
 unfolding sourceFitsOf
-source-room d sram h = leb-true _ _ (and-both (eqb (d .nvmsrcaddr % 4) 0) (leb (sourceWordOf d + 4) sram) h .1)
+source-room d sram h = leb-true _ _ (and-both (eqb (d .launched .nvmsrcaddr % 4) 0) (leb (sourceWordOf d + 4) sram) h .1)
 
 -- every effect works in the bank and on the quad of the next step
 effect-place : (g : Geometry) (s : State) (sram : List ℕ) → let l = stepLocationOf g (s .device) in

@@ -1,4 +1,5 @@
--- "Launch and flash steps": what the next step of a running operation does. Assumes nothing.
+-- "Launch and flash steps": what the next step of a running operation does; W-209: "The running operation uses the address, data and source
+-- it was launched with". Assumes nothing.
 use Prim.Native.Nat.{ℕ, _+_, _-_, _*_, _/_, _%_, _<_}
 use mathlib.Core.Path.{_≡_}
 use mathlib.Core.Bool.{Bool, true, false, _&&_}
@@ -15,14 +16,14 @@ use Rattle.device.specs.declared.record.Device.{Device}
 use Rattle.device.specs.State.{State, bankOf}
 use Rattle.device.specs.Record.{opOf, bfswap, pfswap}
 use Rattle.protection.specs.Protection.{bootProtectedOf}
-use Rattle.nvmop.specs.Operation.{targetOf, beginsOf, lengthOf}
+use Rattle.nvmop.specs.Operation.{targetOf, launchedBeginsOf, lengthOf}
 use Rattle.flash.specs.declared.effect.Effect.{Effect}
 use Rattle.device.specs.Numbers.{quadProgram, rowProgram, lowerErase, upperErase}
 
 -- an operation that runs on a possible device: what the functions below ask for
 pub record Runs (g : Geometry) (d : Device) : Type 0 where
   pub range : InRange g
-  pub begins : beginsOf g d ≡ true
+  pub begins : launchedBeginsOf g d ≡ true
   pub below : d .step < lengthOf g (opOf d)
 
 -- the steps of one region
@@ -40,7 +41,7 @@ stepAtOf g op address step =
     (located true true (16 * (step - regionSteps g))))))
 
 abbrev pub stepLocationOf : Geometry → Device → Location
-stepLocationOf g d = stepAtOf g (opOf d) (d .nvmaddr) (d .step)
+stepLocationOf g d = stepAtOf g (opOf d) (d .launched .nvmaddr) (d .step)
 
 -- "In a protected boot page steps count and change nothing, without abort"
 unfoldable pub blockedOf : Geometry → Device → Location → Bool
@@ -48,11 +49,11 @@ blockedOf g d l = pick (l .program) false (bootProtectedOf d (l .upper) (pageOf 
 
 -- "Row data is four words of lent SRAM (physical 0 upward) at NVMSRCADDR + 16×step, a sum that doesn't wrap"
 abbrev pub sourceWordOf : Device → ℕ
-sourceWordOf d = (d .nvmsrcaddr + 16 * d .step) / 4
+sourceWordOf d = (d .launched .nvmsrcaddr + 16 * d .step) / 4
 
 -- "an address not a multiple of 4 or a word past the SRAM aborts": neither
 unfoldable pub sourceFitsOf : Device → ℕ → Bool
-sourceFitsOf d sram = eqb (d .nvmsrcaddr % 4) 0 && leb (sourceWordOf d + 4) sram
+sourceFitsOf d sram = eqb (d .launched .nvmsrcaddr % 4) 0 && leb (sourceWordOf d + 4) sram
 
 abbrev pub effect : Bool → Bool → Bool → ℕ → List ℕ → Effect
 effect aborts writes second quad intended =
@@ -63,7 +64,7 @@ unfoldable pub effectAtOf : Device → List ℕ → Bool → ℕ → List ℕ �
 effectAtOf d sram second quad old =
     pick (ltb rowProgram (opOf d)) (effect false true second quad blankQuad)
     (pick (isBlankOf old)
-    (pick (eqb (opOf d) quadProgram) (effect false true second quad (d .nvmdata))
+    (pick (eqb (opOf d) quadProgram) (effect false true second quad (d .launched .nvmdata))
     (pick (sourceFitsOf d (length sram)) (effect false true second quad (quadFrom sram (sourceWordOf d)))
     (effect true false second quad blankQuad)))
     (effect true false second quad blankQuad))

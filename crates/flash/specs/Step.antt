@@ -12,8 +12,8 @@ use Rattle.device.specs.declared.record.Device.{Device}
 use Rattle.device.specs.declared.answer.Answer.{Answer}
 use Rattle.device.specs.State.{State, After, after}
 use Rattle.device.specs.Registers.{WR, WRERR}
-use Rattle.device.specs.Builders.{withCon}
-use Rattle.device.specs.Record.{running, opOf}
+use Rattle.device.specs.Builders.{withCon, withLaunched}
+use Rattle.device.specs.Record.{running, opOf, noOperands}
 use Rattle.nvmop.specs.Operation.{lengthOf}
 use Rattle.common_declines.specs.CommonDecline.{commonDeclineOf}
 use Rattle.flash.specs.declared.step.StepEffect.{StepEffect}
@@ -27,11 +27,15 @@ stepDeclineOf g d one two sram = firstOf (commonDeclineOf g d (one ∷ two ∷ [
 abbrev pub advanced : Device → Bool → Answer
 advanced d event = record { decline = Decline.Accepted; device = d; event = event }
 
+-- the device after an operation: WR = 0, and what was launched is "all 0 while WR is 0"
+abbrev pub endedOf : Device → ℕ → Device
+endedOf d con = withLaunched (withCon d con (d .keystep) 0) noOperands
+
 -- "Abort: quad unchanged, WR = 0, WRERR stays 1, event. The last step clears WR and WRERR, with an event."
 unfoldable pub advanceOf : Geometry → Device → Bool → Answer
 advanceOf g d aborts =
-    pick aborts (advanced (withCon d (clearOf (d .nvmcon .0) WR) (d .keystep) 0) true)
-    (pick (eqb (d .step + 1) (lengthOf g (opOf d))) (advanced (withCon d (clearOf (d .nvmcon .0) (WR + WRERR)) (d .keystep) 0) true)
+    pick aborts (advanced (endedOf d (clearOf (d .nvmcon .0) WR)) true)
+    (pick (eqb (d .step + 1) (lengthOf g (opOf d))) (advanced (endedOf d (clearOf (d .nvmcon .0) (WR + WRERR))) true)
     (advanced (withCon d (d .nvmcon .0) (d .keystep) (d .step + 1)) false))
 
 -- what a step that is not declined answers, and what it writes

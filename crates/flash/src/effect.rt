@@ -54,7 +54,7 @@ pub fn step_location(g: Geometry, d: Device) -> Location
     let op = op(d);
     let step = d.step;
     if op < LOWER_ERASE {
-        let t = target(g, op, d.nvmaddr);
+        let t = target(g, op, d.launched.nvmaddr);
         return inside(t.program, t.upper, t.offset + 16 * step);
     }
     if op == LOWER_ERASE {
@@ -88,14 +88,14 @@ fn is_blocked(g: Geometry, d: Device, l: Location) -> bool
 fn source_word(d: Device) -> usize
     ensures { λ r. ⌜ r ≡ sourceWordOf d ⌝ }
 {
-    (d.nvmsrcaddr as usize + 16 * (d.step as usize)) / 4
+    (d.launched.nvmsrcaddr as usize + 16 * (d.step as usize)) / 4
 }
 
 // Whether a row's data is aligned and lies in the SRAM.
 fn source_fits(d: Device, sram: usize) -> bool
     ensures { λ r. ⌜ r ≡ sourceFitsOf d sram ⌝ }
 {
-    if d.nvmsrcaddr % 4 != 0 {
+    if d.launched.nvmsrcaddr % 4 != 0 {
         return false;
     }
     source_word(d) + 4 <= sram
@@ -125,7 +125,7 @@ fn effect_at(d: Device, sram: &[u32], second: bool, quad: u32, old: [u32; 4]) ->
         return doing(true, false, second, quad, blank);
     }
     if op == QUAD_PROGRAM {
-        let data = d.nvmdata;
+        let data = d.launched.nvmdata;
         return doing(false, true, second, quad, data);
     }
     if !source_fits(d, sram.len()) {

@@ -5,13 +5,15 @@ ghost use lib.ListN.{length};
 ghost use Rattle.geometry.specs.Banks.{bankWordsOf};
 ghost use Rattle.device.specs.State.{lent, leaves};
 ghost use Rattle.flash.specs.Effect.{Runs};
-ghost use Rattle.flash.specs.Step.{stepDeclineOf, advanceOf, stepEffectOf, stepOf};
+ghost use Rattle.flash.specs.Step.{stepDeclineOf, endedOf, advanceOf, stepEffectOf, stepOf};
 use crate::effect::next_effect;
 use crate::write::Write;
 use crate::write::apply;
 use common_declines::common_decline::common_decline;
 use device::answer::Answer;
+use device::builders::no_operands;
 use device::builders::with_con;
+use device::builders::with_launched;
 use device::record::Device;
 use device::registers::Nvmcon;
 use geometry::banks::Geometry;
@@ -41,6 +43,13 @@ fn step_decline(g: Geometry, d: Device, one: usize, two: usize, sram: usize) -> 
     Decline::Accepted
 }
 
+// The device after an operation.
+fn ended(d: Device, con: u32) -> Device
+    ensures { λ r. ⌜ r ≡ endedOf d con ⌝ }
+{
+    with_launched(with_con(d, con, d.keystep, 0), no_operands())
+}
+
 // The answer of a step that aborts or not.
 fn advance(g: Geometry, d: Device, aborts: bool) -> Answer
     requires { ⌜ Runs g d ⌝ }
@@ -51,14 +60,14 @@ fn advance(g: Geometry, d: Device, aborts: bool) -> Answer
     if aborts {
         return Answer {
             decline: Decline::Accepted,
-            device: with_con(d, clear(con, Nvmcon::WR), d.keystep, 0),
+            device: ended(d, clear(con, Nvmcon::WR)),
             event: true,
         };
     }
     if next == length(g, op(d)) {
         return Answer {
             decline: Decline::Accepted,
-            device: with_con(d, clear(con, Nvmcon::WR + Nvmcon::WRERR), d.keystep, 0),
+            device: ended(d, clear(con, Nvmcon::WR + Nvmcon::WRERR)),
             event: true,
         };
     }

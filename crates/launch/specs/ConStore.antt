@@ -19,6 +19,6 @@ launchesOf d w = hasOf w WR && (hasOf (d .nvmcon .0) WREN && isOpen d)
 abbrev pub takenOf : Device → ℕ → Device
 takenOf d w = withCon d (mergeOf (conTakesOf d) w (d .nvmcon .0)) (d .keystep) (d .step)
 
--- NVMCON after a store to it, and the event
+-- NVMCON after a store to it, the event, and what is launched
 unfoldable pub conStoreOf : Geometry → Device → ℕ → Launched
-conStoreOf g d w = pick (launchesOf d w) (launchOf g (takenOf d w)) (launched (takenOf d w .nvmcon .0) false)
+conStoreOf g d w = pick (launchesOf d w) (launchOf g (takenOf d w)) (launched (takenOf d w .nvmcon .0) false (d .launched))

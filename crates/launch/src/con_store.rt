@@ -25,7 +25,7 @@ fn launches(d: Device, w: u32) -> bool
     d.keystep == 3
 }
 
-// NVMCON after a store, and whether there was an event.
+// NVMCON after a store, whether there was an event, and what is launched.
 pub fn con_store(g: Geometry, d: Device, w: u32) -> Launched
     requires { ⌜ InRange g ⌝ }
     ensures { λ r. ⌜ r ≡ conStoreOf g d w ⌝ }
@@ -36,8 +36,10 @@ pub fn con_store(g: Geometry, d: Device, w: u32) -> Launched
     if launches(d, w) {
         return launch(g, taken);
     }
+    let operands = d.launched;
     Launched {
         nvmcon: taken.nvmcon.0,
         event: false,
+        operands,
     }
 }

@@ -43,6 +43,10 @@ beginsAtOf g op address pwp =
 abbrev pub beginsOf : Geometry → Device → Bool
 beginsOf g d = beginsAtOf g (opOf d) (d .nvmaddr) (pwpOf d)
 
+-- the same for what the running operation was launched with: "3 judges the launched target"
+abbrev pub launchedBeginsOf : Geometry → Device → Bool
+launchedBeginsOf g d = beginsAtOf g (opOf d) (d .launched .nvmaddr) (pwpOf d)
+
 -- "1 for a quad, Q for a row, 8×Q for a page, 8×Q×P for a region", twice that for NVMOP 7
 unfoldable pub lengthOf : Geometry → ℕ → ℕ
 lengthOf g op =

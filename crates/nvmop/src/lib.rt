@@ -3,7 +3,7 @@
 ghost use mathlib.Core.Path.{_≡_};
 ghost use Rattle.geometry.specs.Banks.{InRange};
 ghost use Rattle.device.specs.Record.{opOf};
-ghost use Rattle.nvmop.specs.Operation.{unitOf, targetOf, targetBeginsOf, regionBeginsOf, beginsAtOf, beginsOf, lengthOf};
+ghost use Rattle.nvmop.specs.Operation.{unitOf, targetOf, targetBeginsOf, regionBeginsOf, beginsAtOf, beginsOf, launchedBeginsOf, lengthOf};
 use device::numbers::BOTH_ERASE;
 use device::numbers::LOWER_ERASE;
 use device::numbers::PAGE_ERASE;
@@ -101,6 +101,14 @@ pub fn begins(g: Geometry, d: Device) -> bool
     ensures { λ r. ⌜ r ≡ beginsOf g d ⌝ }
 {
     begins_at(g, op(d), d.nvmaddr, pwp(d))
+}
+
+// Whether it does with what the running operation was launched with.
+pub fn launched_begins(g: Geometry, d: Device) -> bool
+    requires { ⌜ InRange g ⌝ }
+    ensures { λ r. ⌜ r ≡ launchedBeginsOf g d ⌝ }
+{
+    begins_at(g, op(d), d.launched.nvmaddr, pwp(d))
 }
 
 // The number of steps.

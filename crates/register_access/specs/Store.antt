@@ -1,8 +1,8 @@
 -- Stores and register reads: why they are declined, and what they do. Assumes nothing.
 use Prim.Native.Nat.{ℕ}
-use mathlib.Core.Bool.{Bool, true, false}
+use mathlib.Core.Bool.{Bool, true, false, _&&_}
 use mathlib.Core.List.{List, []}
-use lib.Dec.{eqb, ltb}
+use lib.Dec.{eqb, leb, ltb}
 use lib.ListN.{set}
 use Rattle.words.specs.Word.{pick, mergeOf}
 use Rattle.geometry.specs.declared.banks.Geometry.{Geometry}
@@ -11,7 +11,7 @@ use Rattle.words.specs.Decline.{acceptedOf, firstOf}
 use Rattle.device.specs.declared.record.Device.{Device}
 use Rattle.device.specs.declared.answer.Answer.{Answer}
 use Rattle.register_access.specs.declared.RegisterRead.{RegisterRead}
-use Rattle.device.specs.Builders.{withCon, withStored}
+use Rattle.device.specs.Builders.{withCon, withStored, withLaunched}
 use Rattle.device.specs.Record.{registerOf, running}
 use Rattle.common_declines.specs.CommonDecline.{commonDeclineOf}
 use Rattle.register_fields.specs.Fields.{wantedOf, keyNextOf, keyAfterReadOf, pwpTakesOf, bwpTakesOf, con2TakesOf}
@@ -22,12 +22,20 @@ use Rattle.device.specs.Numbers.{NVMCON, NVMKEY, NVMADDR, NVMDATA0, NVMDATA1, N
 unfoldable pub hasFormOf : ℕ → ℕ → Bool
 hasFormOf r form = pick (ltb NVMCON2 r) false (pick (ltb invert form) false (pick (eqb r NVMKEY) (eqb form plain) true))
 
+-- "NVMADDR, NVMDATA0 to 3 and NVMSRCADDR", registers 2 to 7
+abbrev pub loadsOf : ℕ → Bool
+loadsOf r = leb NVMADDR r && leb r NVMSRCADDR
+
+-- 5 does not apply: W-209: "While WR is set, stores to" these "are accepted."; "Decline 5 remains for all other stores"
+unfoldable pub mayStoreOf : Device → ℕ → Bool
+mayStoreOf d r = pick (running d) (loadsOf r) true
+
 -- declines 1, 3, 4 and 5
 unfoldable pub storeDeclineOf : Geometry → Device → ℕ → ℕ → Decline
 storeDeclineOf g d r form =
     firstOf (commonDeclineOf g d [] 0)
     (pick (hasFormOf r form)
-    (pick (running d) Decline.Running Decline.Accepted)
+    (pick (mayStoreOf d r) Decline.Accepted Decline.Running)
     Decline.Register)
 
 abbrev pub dataAfter : List ℕ → ℕ → ℕ → List ℕ
@@ -56,7 +64,7 @@ accepted d event = record { decline = Decline.Accepted; device = d; event = even
 -- a store of the wanted value w that is not declined
 abbrev pub storeWanted : Geometry → Device → ℕ → ℕ → Answer
 storeWanted g d r w =
-    pick (eqb r NVMCON) (accepted (withCon d (conStoreOf g d w .nvmcon) 0 (d .step)) (conStoreOf g d w .event))
+    pick (eqb r NVMCON) (let l = conStoreOf g d w in accepted (withLaunched (withCon d (l .nvmcon) 0 (d .step)) (l .operands)) (l .event))
     (accepted (appliedOf d r w) false)
 
 unfoldable pub storeAcceptedOf : Geometry → Device → ℕ → ℕ → ℕ → Answer

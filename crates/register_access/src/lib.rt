@@ -1,10 +1,11 @@
 // Stores and register reads.
 ghost use mathlib.Core.Path.{_≡_};
 ghost use Rattle.geometry.specs.Banks.{InRange};
-ghost use Rattle.register_access.specs.Store.{hasFormOf, storeDeclineOf, appliedOf, storeAcceptedOf, storeOf, readDeclineOf, registerReadOf};
+ghost use Rattle.register_access.specs.Store.{hasFormOf, mayStoreOf, storeDeclineOf, appliedOf, storeAcceptedOf, storeOf, readDeclineOf, registerReadOf};
 use common_declines::common_decline::common_decline;
 use device::answer::Answer;
 use device::builders::with_con;
+use device::builders::with_launched;
 use device::numbers::INVERT;
 use device::numbers::PLAIN;
 use device::record::Device;
@@ -56,6 +57,19 @@ fn has_form(number: u32, form: u32) -> bool
     true
 }
 
+// Whether decline 5 does not apply to a store. No call of the device.
+pub fn may_store(d: Device, number: u32) -> bool
+    ensures { λ r. ⌜ r ≡ mayStoreOf d number ⌝ }
+{
+    if !has(d.nvmcon.0, Nvmcon::WR) {
+        return true;
+    }
+    if number < NVMADDR {
+        return false;
+    }
+    number <= NVMSRCADDR
+}
+
 fn store_decline(g: Geometry, d: Device, number: u32, form: u32) -> Decline
     ensures { λ r. ⌜ r ≡ storeDeclineOf g d number form ⌝ }
 {
@@ -66,7 +80,7 @@ fn store_decline(g: Geometry, d: Device, number: u32, form: u32) -> Decline
     if !has_form(number, form) {
         return Decline::Register;
     }
-    if has(d.nvmcon.0, Nvmcon::WR) {
+    if !may_store(d, number) {
         return Decline::Running;
     }
     Decline::Accepted
@@ -111,9 +125,10 @@ pub fn store_accepted(g: Geometry, d: Device, number: u32, form: u32, value: u32
     let w = wanted(form, register(d, number), value);
     if number == Nvmcon::NUMBER {
         let l = con_store(g, d, w);
+        let operands = l.operands;
         return Answer {
             decline: Decline::Accepted,
-            device: with_con(d, l.nvmcon, 0, d.step),
+            device: with_launched(with_con(d, l.nvmcon, 0, d.step), operands),
             event: l.event,
         };
     }

@@ -16,9 +16,9 @@ use Rattle.sequence.specs.Sequence.{sequenceIndexOf}
 use Rattle.sequence.specs.Comparison.{compareOf}
 use Rattle.device.specs.declared.record.Device.{Device}
 use Rattle.device.specs.Registers.{WR, WREN, LVDERR, PFSWAP, BFSWAP, NVMERS, resets}
-use Rattle.device.specs.Builders.{powerOn, withCon, withStored}
+use Rattle.device.specs.Builders.{powerOn, withCon, withStored, withLaunched}
 use Rattle.device.specs.State.{State, state, bankOf, After, after}
-use Rattle.device.specs.Record.{running}
+use Rattle.device.specs.Record.{running, noOperands}
 use Rattle.common_declines.specs.CommonDecline.{commonDeclineOf}
 use Rattle.flash.specs.declared.write.Write.{Write}
 use Rattle.flash.specs.Write.{writtenOf}
@@ -68,14 +68,17 @@ resetConOf d kind =
     (clearOf (d .nvmcon .0) (WR + WREN + PFSWAP + BFSWAP)))
 
 -- "power-on gives all reset values. Kinds 1 and 2 clear the key step and the step number, set NVMPWP, NVMBWP, NVMCON2 to
--- reset values, and keep the rest and NVMERS." BFSWAP is set as compared
+-- reset values, and keep the rest and NVMERS." BFSWAP is set as compared; W-209: "a non-power-on reset keeps the new register values", and
+-- nothing is launched any more
 unfoldable pub resetDeviceOf : Device → ℕ → Bool → Device
 resetDeviceOf d kind swap =
     pick (eqb kind powerOnReset) (withCon powerOn (bitOr (resetConOf d kind) (pick swap BFSWAP 0)) 0 0)
+    (withLaunched
     (withCon
     (withStored d (d .nvmaddr) (d .nvmdata) (d .nvmsrcaddr) (getD resets NVMPWP 0) (getD resets NVMBWP 0)
     (mergeOf NVMERS (d .nvmcon2 .0) (getD resets NVMCON2 0)) 0)
     (bitOr (resetConOf d kind) (pick swap BFSWAP 0)) 0 0)
+    noOperands)
 
 -- "BFSWAP is compared after the tear. A reset gives no event."
 abbrev pub restartOf : Geometry → State → ℕ → After

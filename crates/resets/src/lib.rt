@@ -12,8 +12,10 @@ ghost use Rattle.flash.specs.Effect.{Runs, effectOf};
 ghost use Rattle.device.specs.State.{lent, after};
 ghost use Rattle.resets.specs.Reset.{resetDeclineOf, tornOf, tearOf, comparisonOf, resetConOf, resetDeviceOf, explained, explainedOf};
 use common_declines::common_decline::common_decline;
+use device::builders::no_operands;
 use device::builders::power_on;
 use device::builders::with_con;
+use device::builders::with_launched;
 use device::record::Device;
 use device::registers::Nvmbwp;
 use device::registers::Nvmcon;
@@ -154,7 +156,7 @@ fn reset_device(d: Device, kind: u32, swap: bool) -> Device
     e.nvmpwp = nvmpwp;
     e.nvmbwp = nvmbwp;
     e.nvmcon2 = nvmcon2;
-    with_con(e, con, 0, 0)
+    with_launched(with_con(e, con, 0, 0), no_operands())
 }
 
 // A reset: kind 0 power-on, 1 brown-out, 2 other.

@@ -1,13 +1,13 @@
 -- The definitions compute what the paper prints.
 -- Assumes nothing.
 use mathlib.Core.Path.{refl}
-use Rattle.register_access.specs.Store.{hasFormOf, storeDeclineOf, appliedOf, storeAcceptedOf, storeOf}
+use Rattle.register_access.specs.Store.{hasFormOf, mayStoreOf, storeDeclineOf, appliedOf, storeAcceptedOf, storeOf}
 use Rattle.launch.specs.ConStore.{launchesOf, conStoreOf}
 use Rattle.register_fields.specs.Fields.{keyNextOf, conTakesOf}
 use Rattle.launch.specs.Launch.{launchOf}
 use Rattle.common_declines.specs.CommonDecline.{commonDeclineOf}
 use Rattle.nvmop.specs.Operation.{unitOf, targetOf, targetBeginsOf, beginsAtOf, lengthOf}
-use Rattle.common_declines.specs.Possible.{implementedOf, runningOf, possibleOf}
+use Rattle.common_declines.specs.Possible.{implementedOf, launchedFitsOf, nothingLaunchedOf, runningOf, restingOf, possibleOf}
 use Rattle.protection.specs.Protection.{programProtectedOf}
 use Rattle.device.specs.Record.{registerOf}
 use Rattle.flash.specs.Effect.{stepAtOf, blockedOf, effectAtOf, effectOf}
@@ -23,8 +23,9 @@ use Rattle.script_format.specs.Records.{valueOf, recordOf, isStoreOf, isStepOf,
 use Rattle.script_program.specs.WorkedExample.{WorkedExample}
 
 pub worked-example : WorkedExample
-unfolding hasFormOf storeDeclineOf launchesOf conStoreOf appliedOf storeAcceptedOf storeOf keyNextOf conTakesOf launchOf unitOf
-    targetOf targetBeginsOf beginsAtOf lengthOf implementedOf runningOf possibleOf programProtectedOf registerOf stepAtOf
-    blockedOf effectAtOf effectOf lengthsFitOf lentDeclineUpTo commonDeclineOf stepDeclineOf advanceOf stepOf listedOf inRangeUpTo inWindowOf locateOf digitOf
-    widthOf lineOf recordAfterOf printedOf valueOf recordOf isStoreOf isStepOf isRecordOf isScriptOf
+unfolding hasFormOf mayStoreOf storeDeclineOf launchesOf conStoreOf appliedOf storeAcceptedOf storeOf keyNextOf conTakesOf
+    launchOf unitOf targetOf targetBeginsOf beginsAtOf lengthOf implementedOf launchedFitsOf nothingLaunchedOf restingOf runningOf
+    possibleOf programProtectedOf registerOf stepAtOf blockedOf effectAtOf effectOf lengthsFitOf lentDeclineUpTo commonDeclineOf
+    stepDeclineOf advanceOf stepOf listedOf inRangeUpTo inWindowOf locateOf digitOf widthOf lineOf recordAfterOf printedOf valueOf
+    recordOf isStoreOf isStepOf isRecordOf isScriptOf
 worked-example = record { worked = refl; empty = refl }

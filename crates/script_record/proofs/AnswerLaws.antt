@@ -23,7 +23,7 @@ use Rattle.common_declines.specs.Possible.{possibleOf}
 use Rattle.common_declines.specs.CommonDecline.{commonDeclineOf}
 use Rattle.common_declines.proofs.CommonDeclineLaws.{opens}
 use Rattle.device.specs.declared.answer.Answer.{Answer}
-use Rattle.register_access.specs.Store.{hasFormOf, storeDeclineOf, storeAcceptedOf, storeOf}
+use Rattle.register_access.specs.Store.{hasFormOf, mayStoreOf, storeDeclineOf, storeAcceptedOf, storeOf}
 use Rattle.flash.specs.Step.{stepDeclineOf, stepOf}
 use Rattle.resets.specs.Reset.{resetDeclineOf, Explained, explainedOf, resetOf}
 use Rattle.device.specs.State.{State, state, After}
@@ -41,7 +41,7 @@ module _ (P : Decline → Type 0) (g : Geometry) (d : Device) (accepted : P Decl
       pick-both (λ (a : Answer). P (a .decline)) (acceptedOf (storeDeclineOf g d r form))
       (pick-both (λ (a : Answer). P (a .decline)) (eqb r 0) accepted accepted)
       (pick-both P (acceptedOf (commonDeclineOf g d [] 0))
-      (pick-both P (hasFormOf r form) (pick-both P (running d) run accepted) register)
+      (pick-both P (hasFormOf r form) (pick-both P (mayStoreOf d r) accepted run) register)
       common)
 
   step-answer : (one two sram : List ℕ) → P (commonDeclineOf g d (length one ∷ length two ∷ []) (length sram)) → P Decline.Idle

@@ -9,7 +9,7 @@ use Rattle.sequence.specs.Comparison.{compareOf}
 use Rattle.device.specs.declared.record.Device.{Device}
 use Rattle.device.specs.Builders.{powerOn}
 use Rattle.device.specs.Record.{registerOf}
-use Rattle.common_declines.specs.Possible.{implementedOf, possibleOf}
+use Rattle.common_declines.specs.Possible.{implementedOf, launchedFitsOf, nothingLaunchedOf, restingOf, possibleOf}
 use Rattle.common_declines.specs.CommonDecline.{commonDeclineOf}
 use Rattle.nvmop.proofs.Bench as operation-bench
 use Rattle.resets.specs.Reset.{comparedOf, resetConOf, resetDeviceOf}
@@ -26,7 +26,9 @@ unfolding complementOf validOf compareOf resetConOf resetDeviceOf
 bench-power-on = (λ d. refl, λ d. refl, λ d. refl, λ d. refl)
 
 pub bench : Bench
-unfolding listedOf inRangeUpTo lengthsFitOf lentDeclineUpTo complementOf validOf compareOf registerOf implementedOf possibleOf commonDeclineOf totalOf
+unfolding listedOf inRangeUpTo lengthsFitOf lentDeclineUpTo complementOf validOf compareOf registerOf
+    implementedOf launchedFitsOf nothingLaunchedOf restingOf possibleOf
+    commonDeclineOf totalOf
     clashOf sequenceAllowsOf upperFreeOf startDeclineOf startOf
 bench =
     record {

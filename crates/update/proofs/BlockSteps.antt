@@ -16,7 +16,8 @@ use Rattle.geometry.specs.Banks.{InRange, pageQuadsOf, programBytesOf, bankWord
 use Rattle.geometry.proofs.SizeLaws.{in-range}
 use Rattle.sequence.specs.Sequence.{sequenceQuadOf, sequenceIndexOf}
 use Rattle.device.specs.declared.record.Device.{Device}
-use Rattle.device.specs.Builders.{withCon}
+use Rattle.device.specs.Builders.{withCon, withLaunched}
+use Rattle.device.specs.Record.{noOperands}
 use Rattle.protection.specs.Protection.{pwpOf}
 use Rattle.nvmop.specs.Operation.{lengthOf}
 use Rattle.device.specs.declared.answer.Answer.{Answer}
@@ -128,7 +129,8 @@ module _ (u : Fixed) where
   block-leads k d e at l rest same =
       let (free, reach, four) = loaded-free k d at l in
       let codes = block-codes k in
-      let ended : storeOf g e 0 1 0x4000 .device ≡ withCon (loadedIn u k d) (restCon b (opIn u k)) 0 0 =
+      let ended : storeOf g e 0 1 0x4000 .device ≡ withCon (withLaunched (loadedIn u k d) noOperands) (restCon b (opIn u k)) 0 0 =
       ap (λ (s : Answer). s .device) (clear-wren g e rest) ∙ rw (same, codes .rests) in
-      ended-between g b (opIn u k) codes (storeOf g e 0 1 0x4000 .device) (loadedIn u k d) (no-launch-rests g e rest (access 0 1 0x4000) quiet-clear) ended
+      ended-between g b (opIn u k) codes (storeOf g e 0 1 0x4000 .device) (withLaunched (loadedIn u k d) noOperands)
+      (no-launch-rests g e rest (access 0 1 0x4000) quiet-clear) ended
       free reach four

@@ -19,7 +19,7 @@ use Rattle.geometry.specs.Banks.{InRange, pagesOf, pageQuadsOf}
 use Rattle.geometry.proofs.SizeLaws.{in-range}
 use Rattle.sequence.specs.Sequence.{sequenceQuadOf, nextSequenceOf}
 use Rattle.device.specs.declared.record.Device.{Device}
-use Rattle.device.specs.Builders.{withCon, withAddress, withData}
+use Rattle.device.specs.Builders.{withAddress, withData}
 use Rattle.device.specs.Record.{bfswap}
 use Rattle.common_declines.proofs.PossibleLaws.{idle-step}
 use Rattle.register_access.specs.Store.{hasFormOf}
@@ -32,7 +32,7 @@ use Rattle.update.specs.Actions.{upperAddressOf, erasedPageOf, programme
 use Rattle.update.specs.PowerFail.{Words}
 use Rattle.update.proofs.WordLaws.{next-word}
 use Rattle.update.proofs.TargetLaws.{address-word}
-use Rattle.update.proofs.HeadLaws.{Between, runCon, clearedDevice, quiet-op, quiet-set, quiet-clear, quiet-keys}
+use Rattle.update.proofs.HeadLaws.{Between, runCon, launchedDevice, clearedDevice, quiet-op, quiet-set, quiet-clear, quiet-keys}
 use Rattle.update.proofs.HeadLaws.{page-head, quad-head, clearing-head, cleared-rest, unprotecting-head, ready-between}
 use Rattle.update.proofs.StoringLaws.{Forms, prefix-rest, quiet-prefix, Shut, shut-prefix, swap-kept}
 use Rattle.update.proofs.BankLaws.{page-below, quad-below}
@@ -161,7 +161,7 @@ module _ (u : Fixed) where
       let here : Device = withAddress d (upperAddressOf g (programmedQuadOf g i)) in
       quad-head g b d at (programmedQuadOf g i) (wordAt q 0) (wordAt q 1) (wordAt q 2) (wordAt q 3) (quad-below g ok i has)
       (small i 0 (omega arith)) (small i 1 (omega arith)) (small i 2 (omega arith)) (small i 3 (omega arith))
-      ∙ ap (λ (words : List ℕ). withCon (withData here words) (runCon b 2) 0 (d .step)) (sym (new-four g image (oldWord u) (programmedQuadOf g i)))
+      ∙ ap (λ (words : List ℕ). launchedDevice (withData here words) (runCon b 2) (d .step)) (sym (new-four g image (oldWord u) (programmedQuadOf g i)))
       ∙ ap (runIn u (quad i) d) (idle-step g d (at .rest .possible) (at .rest .idle))
 
   -- and those of the prologue lead between two blocks

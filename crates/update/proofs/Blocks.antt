@@ -14,8 +14,8 @@ use Rattle.geometry.specs.Banks.{inRangeOf, pagesOf, pageQuadsOf, programBytesO
 use Rattle.sequence.specs.Sequence.{sequenceQuadOf, sequenceIndexOf, tseqOf, validOf, nextSequenceOf}
 use Rattle.device.specs.declared.record.Device.{Device}
 use Rattle.device.specs.Registers.{UBWPULOCK}
-use Rattle.device.specs.Builders.{withCon, withAddress, withData}
-use Rattle.device.specs.Record.{bfswap, pfswap}
+use Rattle.device.specs.Builders.{withCon, withLaunched, withAddress, withData}
+use Rattle.device.specs.Record.{bfswap, pfswap, noOperands}
 use Rattle.protection.specs.Protection.{pwpOf}
 use Rattle.start_up.specs.StartUp.{Access, storesOf}
 use Rattle.register_access.proofs.AcceptedLaws.{AtRest}
@@ -26,7 +26,7 @@ use Rattle.update.specs.Actions.{stored, clearingStores, unprotectingSto
 use Rattle.update.specs.Actions.{erasedPageOf, programmedQuadOf, newQuadOf, bankQuadsOf, totalOf, pageActions, quadActions, programmingFrom}
 use Rattle.update.specs.PowerFail.{Words, Position}
 use Rattle.update.proofs.WordLaws.{Loses}
-use Rattle.update.proofs.HeadLaws.{Between, runCon, enabledCon}
+use Rattle.update.proofs.HeadLaws.{Between, runCon, enabledCon, launchedDevice}
 use Rattle.update.proofs.BankLaws.{Erased, Programmed}
 use Rattle.update.proofs.PlacedLaws.{placed}
 
@@ -116,10 +116,10 @@ module _ (u : Fixed) where
 
   -- while its steps run, n of them being done, and after the last
   abbrev pub runIn : Block → Device → ℕ → Device
-  runIn k d n = withCon (loadedIn k d) (runCon b (opIn k)) 0 n
+  runIn k d n = launchedDevice (loadedIn k d) (runCon b (opIn k)) n
 
   abbrev pub doneIn : Block → Device → Device
-  doneIn k d = withCon (loadedIn k d) (enabledCon b (opIn k)) 0 0
+  doneIn k d = withCon (withLaunched (loadedIn k d) noOperands) (enabledCon b (opIn k)) 0 0
 
   -- ---- the device at the beginning of a block: as an accepted start finds it, or between two blocks
   pub record Begins (d : Device) : Type 0 where

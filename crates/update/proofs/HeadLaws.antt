@@ -19,8 +19,8 @@ use Rattle.geometry.specs.declared.banks.Geometry.{Geometry}
 use Rattle.geometry.specs.Banks.{pagesOf, pageQuadsOf, programBytesOf}
 use Rattle.device.specs.declared.record.Device.{Device}
 use Rattle.device.specs.Registers.{WR, WREN, WRERR, LVDERR, PFSWAP, BFSWAP, NVMOP, UBWPULOCK}
-use Rattle.device.specs.Builders.{withCon, withAddress, withBwp, withData}
-use Rattle.device.specs.Record.{bfswap, pfswap, isOpen}
+use Rattle.device.specs.Builders.{withCon, withLaunched, withAddress, withBwp, withData}
+use Rattle.device.specs.Record.{bfswap, pfswap, isOpen, operandsOf}
 use Rattle.protection.specs.Protection.{pwpOf}
 use Rattle.nvmop.specs.Operation.{beginsAtOf}
 use Rattle.common_declines.proofs.PossibleLaws.{possible}
@@ -99,10 +99,14 @@ unfolding hasFormOf
 quiet-keys = search arith
 
 -- ---- the launch of a page erase or a quad
+-- the device with an operation launched from its registers
+abbrev pub launchedDevice : Device → ℕ → ℕ → Device
+launchedDevice d con step = withLaunched (withCon d con 0 step) (operandsOf d)
+
 module _ (g : Geometry) (b : Bool) (op : ℕ) (codes : Codes b op) (d : Device) (rest : AtRest g d) where
   launch-head : hasOf (d .nvmcon .0) WREN ≡ false → isOpen d ≡ false → mergeOf (WREN + NVMOP) op (d .nvmcon .0) ≡ restCon b op → 2 ≤ op → op ≤ 7
       → bit 15 op ≡ false → op < 2 ^ 32 → beginsAtOf g op (d .nvmaddr) (pwpOf d) ≡ true
-      → storesOf g d (launchStores op) ≡ withCon d (runCon b op) 0 (d .step)
+      → storesOf g d (launchStores op) ≡ launchedDevice d (runCon b op) (d .step)
   launch-head off shut takes lo hi low word begins =
       let r1 = rw (plain-op g d rest op (codes .small) off shut, takes) at (no-launch-rests g d rest (access 0 0 op) (quiet-op op low word)) in
       let r2 = rw (set-wren g _ r1, codes .enables) at (no-launch-rests g _ r1 (access 0 2 0x4000) quiet-set) in
@@ -159,7 +163,7 @@ module _ (g : Geometry) (b : Bool) (d : Device) (at : Between g b d) where
 
   -- the stores of a page launch its erase
   pub page-head : (p : ℕ) → p < pagesOf g
-      → storesOf g d (pageStores g p) ≡ withCon (withAddress d (upperAddressOf g (p * pageQuadsOf g))) (runCon b 4) 0 (d .step)
+      → storesOf g d (pageStores g p) ≡ launchedDevice (withAddress d (upperAddressOf g (p * pageQuadsOf g))) (runCon b 4) (d .step)
   page-head p l =
       let a = upperAddressOf g (p * pageQuadsOf g) in
       let ok = at .rest .range in
@@ -171,7 +175,7 @@ module _ (g : Geometry) (b : Bool) (d : Device) (at : Between g b d) where
   -- the stores of a quad launch its programming
   pub quad-head : (j w0 w1 w2 w3 : ℕ) → j < bankQuadsOf g → w0 < 2 ^ 32 → w1 < 2 ^ 32 → w2 < 2 ^ 32 → w3 < 2 ^ 32
       → storesOf g d (quadStores g j (w0 ∷ w1 ∷ w2 ∷ w3 ∷ []))
-      ≡ withCon (withData (withAddress d (upperAddressOf g j)) (w0 ∷ w1 ∷ w2 ∷ w3 ∷ [])) (runCon b 2) 0 (d .step)
+      ≡ launchedDevice (withData (withAddress d (upperAddressOf g j)) (w0 ∷ w1 ∷ w2 ∷ w3 ∷ [])) (runCon b 2) (d .step)
   unfolding hasFormOf
   quad-head j w0 w1 w2 w3 l l0 l1 l2 l3 =
       let a = upperAddressOf g j in

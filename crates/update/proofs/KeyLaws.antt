@@ -1,6 +1,6 @@
 -- The key step after a turn: at most 1, but after the second and the third key store. Assumes nothing.
 use mathlib.Core.Path.{_≡_, refl, sym, ap, _∙_}
-use mathlib.Core.Bool.{Bool, true, false, not, _&&_}
+use mathlib.Core.Bool.{Bool, true, false, not}
 use mathlib.Core.List.{List}
 use Prim.Native.Nat.{ℕ, _+_, _≤_, _<_}
 use native.Mathlib.Omega.{arith}
@@ -21,7 +21,7 @@ use Rattle.nvmop.specs.Operation.{lengthOf}
 use Rattle.common_declines.specs.Possible.{runningOf, possibleOf}
 use Rattle.common_declines.proofs.PossibleLaws.{possible}
 use Rattle.register_access.specs.Store.{hasFormOf, storeDeclineOf, appliedOf, storeAcceptedOf, storeOf}
-use Rattle.register_access.proofs.AcceptedLaws.{store-at-rest}
+use Rattle.register_access.proofs.AcceptedLaws.{store-ready}
 use Rattle.flash.specs.Effect.{effectOf}
 use Rattle.flash.specs.Step.{advanceOf, stepOf}
 use Rattle.flash.proofs.AcceptedLaws.{step-ready}
@@ -64,7 +64,7 @@ unfolding storeOf storeAcceptedOf appliedOf
 carried-key g d r form value ok early =
     rw ok
     (pick-both (λ (a : Answer). a .device .keystep ≤ 1) (eqb r NVMCON) (omega arith)
-    (key-left d r form value (store-at-rest g d r form ok .1) early))
+    (key-left d r form value (store-ready g d r form ok .formed) early))
 
 stored-key : (g : Geometry) (d : Device) (r form value : ℕ) → acceptedOf (storeOf g d r form value .decline) ≡ true
     → laterKeyOf (Store r form value) ≡ false → storeOf g d r form value .device .keystep ≤ 1

@@ -23,7 +23,7 @@ use Rattle.device.specs.declared.record.Device.{Device}
 use Rattle.device.specs.Record.{running, bfswap}
 use Rattle.common_declines.specs.CommonDecline.{commonDeclineOf}
 use Rattle.common_declines.proofs.CommonDeclineLaws.{opens}
-use Rattle.register_access.specs.Store.{hasFormOf, storeOf}
+use Rattle.register_access.specs.Store.{mayStoreOf, hasFormOf, storeOf}
 use Rattle.register_access.proofs.AcceptedLaws.{AtRest}
 use Rattle.start_up.specs.StartUp.{Access, access, storesOf}
 use Rattle.flash.specs.Effect.{effect, effectOf}
@@ -150,6 +150,7 @@ module _ (u : Fixed) where
 
     goes-store : AtRest g d → (a : Access) → Fit a → actionAt place ≡ storeOfAccess a
         → Phase u (storeOf g d (a .register) (a .form) (a .value) .device) new (suc place) → Goes d new place sram
+    unfolding mayStoreOf
     goes-store rest a (form, word) action phase =
         record {
           allowed = rw (action, rest .idle);

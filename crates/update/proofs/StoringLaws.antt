@@ -15,7 +15,7 @@ use Rattle.words.proofs.BitLaws.{has-bit}
 use Rattle.geometry.specs.declared.banks.Geometry.{Geometry}
 use Rattle.device.specs.declared.record.Device.{Device}
 use Rattle.device.specs.Registers.{WREN, NVMOP, SWAPLOCK}
-use Rattle.device.specs.Builders.{withCon}
+use Rattle.device.specs.Builders.{withCon, withLaunched}
 use Rattle.device.specs.Record.{registerOf, bfswap, isOpen}
 use Rattle.device.specs.declared.answer.Answer.{Answer}
 use Rattle.register_fields.specs.Fields.{wantedOf, conTakesOf}
@@ -98,7 +98,8 @@ module _ (g : Geometry) (d : Device) (rest : AtRest g d) (a : Access) (quiet : N
       w = wantedOf (a .form) (registerOf d (a .register)) (a .value)
 
       go : (t : Bool) → pick t (not (isOpen d)) true ≡ true
-          → let con = accepted (withCon d (conStoreOf g d w .nvmcon) 0 (d .step)) (conStoreOf g d w .event) in
+          → let l = conStoreOf g d w in
+          let con = accepted (withLaunched (withCon d (l .nvmcon) 0 (d .step)) (l .operands)) (l .event) in
           bit 6 (pick t con (accepted (appliedOf d (a .register) w) false) .device .nvmcon .0) ≡ bit 6 (d .nvmcon .0)
       go true h = con-keeps g d w 6 (shut-takes d (not-true (isOpen d) h)) refl
       go false h = refl

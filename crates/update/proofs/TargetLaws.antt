@@ -153,7 +153,7 @@ module _ (g : Geometry) (ok : InRange g) where
     place-effect j at = rw (at, not-blocked j, in-upper j, place-quad j)
 
     -- step k of a page erase
-    pub erase-effect : (p k : ℕ) → p < pagesOf g → k < pageQuadsOf g → opOf d ≡ 4 → d .nvmaddr ≡ upperAddressOf g (p * pageQuadsOf g) → d .step ≡ k
+    pub erase-effect : (p k : ℕ) → p < pagesOf g → k < pageQuadsOf g → opOf d ≡ 4 → d .launched .nvmaddr ≡ upperAddressOf g (p * pageQuadsOf g) → d .step ≡ k
         → effectOf g (state d one two) sram ≡ effect false true (not (bfswap d)) (p * pageQuadsOf g + k) blankQuad
     unfolding stepAtOf effectAtOf
     erase-effect p k h l op address step = place-effect (p * pageQuadsOf g + k) at ∙ erases
@@ -166,9 +166,9 @@ module _ (g : Geometry) (ok : InRange g) where
         erases = rw op
 
     -- the step of a quad that is blank
-    pub program-effect : (j : ℕ) → j < bankQuadsOf g → opOf d ≡ 2 → d .nvmaddr ≡ upperAddressOf g j → d .step ≡ 0
+    pub program-effect : (j : ℕ) → j < bankQuadsOf g → opOf d ≡ 2 → d .launched .nvmaddr ≡ upperAddressOf g j → d .step ≡ 0
         → quadAt (pick (not (bfswap d)) two one) j ≡ blankQuad
-        → effectOf g (state d one two) sram ≡ effect false true (not (bfswap d)) j (d .nvmdata)
+        → effectOf g (state d one two) sram ≡ effect false true (not (bfswap d)) j (d .launched .nvmdata)
     unfolding stepAtOf effectAtOf
     program-effect j h op address step blank = place-effect j at ∙ programs
       where
@@ -177,5 +177,5 @@ module _ (g : Geometry) (ok : InRange g) where
             rw (op, address, step, quad-target j h)
             (by-kind (λ (a : ℕ) (l : Location). located (l .program) (l .upper) (l .offset + 0) ≡ l) j (λ k. rw add-zero) (λ k. rw add-zero))
 
-        programs : effectAtOf d sram (not (bfswap d)) j (quadAt (pick (not (bfswap d)) two one) j) ≡ effect false true (not (bfswap d)) j (d .nvmdata)
+        programs : effectAtOf d sram (not (bfswap d)) j (quadAt (pick (not (bfswap d)) two one) j) ≡ effect false true (not (bfswap d)) j (d .launched .nvmdata)
         programs = ap (effectAtOf d sram (not (bfswap d)) j) blank ∙ rw op

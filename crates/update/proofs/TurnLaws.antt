@@ -23,13 +23,12 @@ use Rattle.device.specs.Record.{running}
 use Rattle.common_declines.specs.CommonDecline.{commonDeclineOf}
 use Rattle.common_declines.proofs.CommonDeclineLaws.{Ready, ready, opens}
 use Rattle.device.specs.declared.answer.Answer.{Answer}
-use Rattle.register_access.specs.Store.{storeAcceptedOf, storeOf}
-use Rattle.register_access.proofs.AcceptedLaws.{AtRest}
+use Rattle.register_access.specs.Store.{mayStoreOf, storeAcceptedOf, storeOf}
+use Rattle.register_access.proofs.AcceptedLaws.{store-carried}
 use Rattle.flash.specs.Step.{stepOf}
 use Rattle.device.specs.State.{State, After}
 use Rattle.controller.specs.Controller.{Operation, Keeps, Sound}
 use Rattle.controller.proofs.Controller.{controller}
-use Rattle.controller.proofs.StoreEquations.{store-runs}
 use Rattle.update.specs.declared.actions.Action.{Action}
 use Rattle.update.specs.declared.actions.Action.the-variants.{Store, Step}
 use Rattle.update.specs.Actions.{totalOf}
@@ -40,11 +39,11 @@ use Rattle.update.proofs.FormLaws.{actions-formed, step-carried}
 
 -- an action that is not declined
 acts : (d : Device) (a : Action) → acceptedOf (actionDeclineOf d a) ≡ true → actionDeclineOf d a ≡ Decline.Accepted
-acts d (Store r form value) h = go (running d) h
+acts d (Store r form value) h = go (mayStoreOf d r) h
   where
-    go : (t : Bool) → acceptedOf (pick t Decline.Running Decline.Accepted) ≡ true → pick t Decline.Running Decline.Accepted ≡ Decline.Accepted
-    go true h = true-not-false (sym h)
-    go false h = refl
+    go : (t : Bool) → acceptedOf (pick t Decline.Accepted Decline.Running) ≡ true → pick t Decline.Accepted Decline.Running ≡ Decline.Accepted
+    go true h = refl
+    go false h = true-not-false (sym h)
 acts d Step h = go (running d) h
   where
     go : (t : Bool) → acceptedOf (pick t Decline.Accepted Decline.Idle) ≡ true → pick t Decline.Accepted Decline.Idle ≡ Decline.Accepted
@@ -81,15 +80,14 @@ module _ (g : Geometry) (s : State) (image sram : List ℕ) (place : ℕ) where
   carries : Ready g (s .device) lengths (length sram) → (a : Action) → Formed a → acceptedOf (actionDeclineOf (s .device) a) ≡ true
       → performOf g s sram a .decline ≡ Decline.Accepted
   unfolding storeAcceptedOf
-  carries opened (Store r form value) ok h = rest (running (s .device)) refl h
+  carries opened (Store r form value) ok h = go (mayStoreOf (s .device) r) refl h
     where
-      rest : (t : Bool) → running (s .device) ≡ t → acceptedOf (pick t Decline.Running Decline.Accepted) ≡ true
+      go : (t : Bool) → mayStoreOf (s .device) r ≡ t → acceptedOf (pick t Decline.Accepted Decline.Running) ≡ true
           → storeOf g (s .device) r form value .decline ≡ Decline.Accepted
-      rest true e h = true-not-false (sym h)
-      rest false e h =
-          let still : AtRest g (s .device) = record { listed = opened .lent .listed; range = opened .lent .range; possible = opened .possible; idle = e } in
-          ap (λ (a : Answer). a .decline) (store-runs g (s .device) still r form value ok)
+      go true may h =
+          ap (λ (a : Answer). a .decline) (store-carried g (s .device) r form value (opened .lent .listed) (opened .possible) ok may)
           ∙ pick-both (λ (a : Answer). a .decline ≡ Decline.Accepted) (eqb r 0) refl refl
+      go false may h = true-not-false (sym h)
   carries opened Step ok h = rest (running (s .device)) refl h
     where
       rest : (t : Bool) → running (s .device) ≡ t → acceptedOf (pick t Decline.Accepted Decline.Idle) ≡ true

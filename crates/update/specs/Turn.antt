@@ -12,7 +12,7 @@ use Rattle.words.specs.Decline.{acceptedOf, firstOf}
 use Rattle.device.specs.declared.record.Device.{Device}
 use Rattle.device.specs.Record.{running}
 use Rattle.common_declines.specs.CommonDecline.{commonDeclineOf}
-use Rattle.register_access.specs.Store.{hasFormOf, storeOf}
+use Rattle.register_access.specs.Store.{hasFormOf, mayStoreOf, storeOf}
 use Rattle.flash.specs.Step.{stepOf}
 use Rattle.device.specs.State.{State, After, answeredOf, lent}
 use denote.Ref.{RefT}
@@ -30,7 +30,7 @@ nextActionOf g s image place = actionAtOf g image (lowerWordOf g s) place
 
 -- "a turn whose action is declined (5 or 6)"
 abbrev pub actionDeclineOf : Device → Action → Decline
-actionDeclineOf d (Store r form value) = pick (running d) Decline.Running Decline.Accepted
+actionDeclineOf d (Store r form value) = pick (mayStoreOf d r) Decline.Accepted Decline.Running
 actionDeclineOf d Step = pick (running d) Decline.Accepted Decline.Idle
 
 -- declines 1, 2, 3, 5 or 6, and 13: "A turn whose place exceeds the total."

@@ -19,6 +19,7 @@ use flash::write::apply;
 use flash::write::no_write;
 use geometry::banks::Geometry;
 use geometry::lent::Lent;
+use register_access::may_store;
 use register_access::store_accepted;
 use update::actions::Action;
 use update::turn::TurnEffect;
@@ -86,16 +87,15 @@ fn act(
     ensures { λ r. ⌜ effectedOf (lent d (one .entry) (two .entry)) r ≡ actOf g (lent d (one .entry) (two .entry)) (now (sram .entry)) place action ⌝ }
     ensures { λ r. ⌜ Fits (now (one .entry)) (now (two .entry)) (r .write) ⌝ }
 {
-    let running = has(d.nvmcon.0, Nvmcon::WR);
     match action {
         Action::Store(number, form, value) => {
-            if running {
+            if !may_store(d, number) {
                 return unchanged(Decline::Running, false, d, place);
             }
             going(store_accepted(g, d, number, form, value), no_write(), place)
         }
         Action::Step => {
-            if !running {
+            if !has(d.nvmcon.0, Nvmcon::WR) {
                 return unchanged(Decline::Idle, false, d, place);
             }
             let e = step_effect(g, d, one, two, sram);

@@ -25,7 +25,7 @@ use resets::reset;
 use words::word::has;
 
 #[no_mangle]
-pub extern "C" fn yohrundel_flash_read(
+pub extern "C" fn yohrundel_flash_read_2(
     g: Geometry,
     d: Device,
     one: &[u32],
@@ -44,7 +44,7 @@ pub extern "C" fn yohrundel_flash_read(
 
 // The bank on the lower alias by its number: the lent bank itself.
 #[no_mangle]
-pub extern "C" fn yohrundel_lower_bank(
+pub extern "C" fn yohrundel_lower_bank_2(
     g: Geometry,
     d: Device,
     one: &[u32],
@@ -97,7 +97,7 @@ pub extern "C" fn yohrundel_page(g: Geometry, bank: &[u32], page: u32) -> PageAn
 }
 
 #[no_mangle]
-pub extern "C" fn yohrundel_step(
+pub extern "C" fn yohrundel_step_2(
     g: Geometry,
     d: Device,
     one: &mut [u32],
@@ -117,7 +117,7 @@ pub extern "C" fn yohrundel_step(
 }
 
 #[no_mangle]
-pub extern "C" fn yohrundel_reset(
+pub extern "C" fn yohrundel_reset_2(
     g: Geometry,
     d: Device,
     one: &mut [u32],

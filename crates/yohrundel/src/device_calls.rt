@@ -16,14 +16,14 @@ use start_up::start_up;
 
 // The device after power-on, before any comparison of banks.
 #[no_mangle]
-pub extern "C" fn yohrundel_power_on() -> Device
+pub extern "C" fn yohrundel_power_on_2() -> Device
     ensures { λ r. ⌜ r ≡ powerOn ⌝ }
 {
     power_on()
 }
 
 #[no_mangle]
-pub extern "C" fn yohrundel_store(
+pub extern "C" fn yohrundel_store_2(
     g: Geometry,
     d: Device,
     register: u32,
@@ -43,7 +43,7 @@ pub extern "C" fn yohrundel_store(
 }
 
 #[no_mangle]
-pub extern "C" fn yohrundel_register_read(
+pub extern "C" fn yohrundel_register_read_2(
     g: Geometry,
     d: Device,
     register: u32,
@@ -61,7 +61,7 @@ pub extern "C" fn yohrundel_register_read(
 }
 
 #[no_mangle]
-pub extern "C" fn yohrundel_start_up(g: Geometry, d: Device) -> DeviceAnswer
+pub extern "C" fn yohrundel_start_up_2(g: Geometry, d: Device) -> DeviceAnswer
     ensures { λ r. ⌜ r ≡ startUpAnswerOf (startUpOf g d) ⌝ }
 {
     let a = start_up(g, d);

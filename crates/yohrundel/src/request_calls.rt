@@ -53,7 +53,7 @@ pub extern "C" fn yohrundel_plan_numbers(minute: u32, duration: u32, windows: &[
 
 // Writes a line for each page of both banks into a buffer.
 #[no_mangle]
-pub extern "C" fn yohrundel_page_sheet(
+pub extern "C" fn yohrundel_page_sheet_2(
     g: Geometry,
     d: Device,
     one: &[u32],

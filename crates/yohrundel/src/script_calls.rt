@@ -11,7 +11,7 @@ use script_play::play;
 use script_play::play_length;
 
 #[no_mangle]
-pub extern "C" fn yohrundel_play(
+pub extern "C" fn yohrundel_play_2(
     g: Geometry,
     d: Device,
     one: &mut [u32],
@@ -34,7 +34,7 @@ pub extern "C" fn yohrundel_play(
 }
 
 #[no_mangle]
-pub extern "C" fn yohrundel_play_length(
+pub extern "C" fn yohrundel_play_length_2(
     g: Geometry,
     d: Device,
     one: &[u32],

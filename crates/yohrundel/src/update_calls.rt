@@ -13,7 +13,7 @@ use yohrundel_lent::answer::TurnAnswer;
 use yohrundel_lent::answer::turn_answer;
 
 #[no_mangle]
-pub extern "C" fn yohrundel_update_start(
+pub extern "C" fn yohrundel_update_start_2(
     g: Geometry,
     d: Device,
     one: &[u32],
@@ -32,7 +32,7 @@ pub extern "C" fn yohrundel_update_start(
 }
 
 #[no_mangle]
-pub extern "C" fn yohrundel_turn(
+pub extern "C" fn yohrundel_turn_2(
     g: Geometry,
     d: Device,
     one: &mut [u32],

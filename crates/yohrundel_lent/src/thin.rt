@@ -9,7 +9,7 @@ use geometry::banks::Geometry;
 
 // One turn with the device record lent: taken apart, turned by value, and stored back.
 #[no_mangle]
-pub extern "C" fn yohrundel_turn_lent(
+pub extern "C" fn yohrundel_turn_lent_2(
     g: Geometry,
     d: &mut Device,
     one: &mut [u32],

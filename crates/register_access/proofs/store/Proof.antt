@@ -2,7 +2,7 @@
 use mathlib.Core.Path.{sym, _∙_}
 use borrow.Author.Needs.{needs}
 use Rattle.register_access.specs.Store.{storeOf}
-use Rattle.register_access.proofs.AcceptedLaws.{store-at-rest}
+use Rattle.register_access.proofs.AcceptedLaws.{store-ready}
 use Rattle.register_access.proofs.store.Statement.{statement}
 use Rattle.register_access.proofs.store.Tie as tie
 
@@ -11,7 +11,7 @@ ranged c κs =
     let decline = c .before .before in
     let a = decline .before .args in
     let accepted = rw (decline .store-decline .ensures) at (sym (c .before .is-accepted .ensures) ∙ c .if1 .taken) in
-    store-at-rest (a .g) (a .d) (a .number) (a .form) accepted .0 .range
+    store-ready (a .g) (a .d) (a .number) (a .form) accepted .range
 
 stored : tie.Need-returns
 unfolding storeOf

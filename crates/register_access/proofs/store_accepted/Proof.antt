@@ -8,8 +8,17 @@ use Rattle.register_access.proofs.store_accepted.Tie as tie
 nvmcon : tie.Need-returns
 unfolding storeAcceptedOf
 nvmcon c =
-    let test = c .before .before in
-    rw (c .with-con .ensures, c .before .con-store .ensures, test .before .wanted .ensures, test .before .before .register .ensures, test .if1 .taken)
+    let con = c .before in
+    let stored = con .before .before in
+    let test = stored .before in
+    rw (
+      c .with-launched .ensures,
+      con .with-con .ensures,
+      stored .con-store .ensures,
+      test .before .wanted .ensures,
+      test .before .before .register .ensures,
+      test .if1 .taken,
+    )
 
 another : tie.Need-returns-2
 unfolding storeAcceptedOf
@@ -20,4 +29,12 @@ another c =
 pub store-accepted-spec : {M : Type 1} → statement M
 store-accepted-spec =
     tie.close
-    (tie.spec (λ c. search needs) (λ c. search needs) (λ c. search needs) (λ c. search needs) nvmcon (λ c. search needs) another)
+    (tie.spec
+    (λ c. search needs)
+    (λ c. search needs)
+    (λ c. search needs)
+    (λ c. search needs)
+    (λ c. search needs)
+    nvmcon
+    (λ c. search needs)
+    another)

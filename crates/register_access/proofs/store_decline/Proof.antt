@@ -33,13 +33,13 @@ busy : tie.Need-returns-3
 unfolding storeDeclineOf
 busy c =
     let form = c .before .before in
-    rw (accepted (form .before .before), formed form, sym (c .before .has .ensures) ∙ c .if3 .taken)
+    rw (accepted (form .before .before), formed form, sym (c .before .may-store .ensures) ∙ not-true _ (c .if3 .taken))
 
-idle : tie.Need-returns-4
+allowed : tie.Need-returns-4
 unfolding storeDeclineOf
-idle c =
+allowed c =
     let form = c .before .before in
-    rw (accepted (form .before .before), formed form, sym (c .before .has .ensures) ∙ c .if3 .left)
+    rw (accepted (form .before .before), formed form, sym (c .before .may-store .ensures) ∙ not-false _ (c .if3 .left))
 
 pub store-decline-spec : {M : Type 1} → statement M
 store-decline-spec =
@@ -52,4 +52,4 @@ store-decline-spec =
     no-form
     (λ c. search needs)
     busy
-    idle)
+    allowed)

@@ -22,12 +22,15 @@ power-on c =
 another : tie.Need-returns-2
 unfolding resetDeviceOf
 another c =
-    let con2 = c .before in
+    let con = c .before .before in
+    let con2 = con .before in
     let bwp = con2 .before .before .before in
     let pwp = bwp .before .before in
     let test = pwp .before .before in
     rw (
-      c .with-con2 .ensures,
+      c .with-launched .ensures,
+      c .before .no-operands .ensures,
+      con .with-con2 .ensures,
       test .before .swapped .ensures,
       test .before .before .reset-con .ensures,
       pwp .new .ensures,
@@ -49,6 +52,8 @@ reset-device-spec =
     (λ c κs. search needs)
     (λ c κs. search needs)
     power-on
+    (λ c κs. search needs)
+    (λ c κs. search needs)
     (λ c κs. search needs)
     (λ c κs. search needs)
     (λ c κs. search needs)

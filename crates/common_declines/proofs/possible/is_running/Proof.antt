@@ -49,7 +49,7 @@ no-steps c =
       no-key (mark .before .before),
       marked mark,
       powered power,
-      sym (c .before .begins .ensures) ∙ not-true _ (c .if4 .taken),
+      sym (c .before .launched-begins .ensures) ∙ not-true _ (c .if4 .taken),
     )
 
 by-length : tie.Need-returns-5
@@ -65,7 +65,7 @@ by-length c =
       no-key (mark .before .before),
       marked mark,
       powered power,
-      sym (begins .before .begins .ensures) ∙ not-false _ (begins .if4 .left),
+      sym (begins .before .launched-begins .ensures) ∙ not-false _ (begins .if4 .left),
     )
 
 pub is-running-spec : {M : Type 1} → statement M

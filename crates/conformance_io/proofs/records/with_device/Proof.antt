@@ -2,6 +2,7 @@
 use Prim.Native.Nat.{_+_, _≤_, _-_}
 use mathlib.Core.Path.{_≡_}
 use native.Mathlib.Omega.{arith}
+use borrow.Author.Needs.{needs}
 use Rattle.conformance_io.proofs.records.with_device.Statement.{statement}
 use Rattle.conformance_io.proofs.records.with_device.Tie as tie
 
@@ -18,11 +19,12 @@ with-device-spec =
     Inv-loop
     μ-loop
     (λ c. omega arith)
-    (λ c κs. tt)
+    (λ c κs. search needs)
     (λ c κs. omega arith)
     (λ c. omega arith)
     (λ c. omega arith)
     (λ c. omega arith)
+    (λ c κs. omega arith)
     (λ c κs. omega arith)
     (λ c κs. omega arith)
     (λ c. omega arith))

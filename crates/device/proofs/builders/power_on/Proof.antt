@@ -12,7 +12,8 @@ returns c =
     let data0 = data1 .before in
     let address = data0 .before in
     let key = address .before in
-    let con2 = key .before in
+    let launched = key .before in
+    let con2 = launched .before in
     let bwp = con2 .before .before in
     let pwp = bwp .before .before in
     let con = pwp .before .before in
@@ -25,6 +26,7 @@ returns c =
       bwp .before .reset-value3 .ensures,
       con2 .new4 .ensures,
       con2 .before .reset-value4 .ensures,
+      launched .no-operands .ensures,
       key .reset-value5 .ensures,
       address .reset-value6 .ensures,
       data0 .reset-value7 .ensures,
@@ -38,6 +40,7 @@ pub power-on-spec : {M : Type 1} → statement M
 power-on-spec =
     tie.close
     (tie.spec
+    (λ c. search needs)
     (λ c. search needs)
     (λ c. search needs)
     (λ c. search needs)

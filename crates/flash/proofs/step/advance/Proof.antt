@@ -12,7 +12,7 @@ few-steps c = let start = c .before in omega (arith, steps-high (start .args .g)
 
 aborted : tie.Need-returns
 unfolding advanceOf
-aborted c = rw (c .with-con .ensures, c .before .clear .ensures, c .before .before .if1 .taken)
+aborted c = rw (c .ended .ensures, c .before .clear .ensures, c .before .before .if1 .taken)
 
 in-range : tie.Need-length-requires
 in-range c κs = c .before .before .before .pre .range
@@ -23,7 +23,7 @@ last c =
     let counted = c .before .before in
     let op = counted .before .before in
     rw (
-      c .with-con2 .ensures,
+      c .ended2 .ensures,
       c .before .clear2 .ensures,
       ← op .op .ensures,
       ← counted .before .length .ensures,
@@ -36,7 +36,7 @@ unfolding advanceOf
 another c =
     let counted = c .before in
     let op = counted .before .before in
-    rw (c .with-con3 .ensures, ← op .op .ensures, ← counted .before .length .ensures, op .before .if1 .left, ne-eqb _ _ (counted .if2 .left))
+    rw (c .with-con .ensures, ← op .op .ensures, ← counted .before .length .ensures, op .before .if1 .left, ne-eqb _ _ (counted .if2 .left))
 
 pub advance-spec : {M : Type 1} → statement M
 advance-spec =

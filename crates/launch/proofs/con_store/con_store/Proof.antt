@@ -21,12 +21,13 @@ launched c =
 only-taken : tie.Need-returns-2
 unfolding conStoreOf
 only-taken c =
-    let new = c .before .before in
+    let test = c .before in
+    let new = test .before .before in
     rw (
       new .new .ensures,
       new .before .merge .ensures,
       new .before .before .con-takes .ensures,
-      sym (c .before .launches .ensures) ∙ c .if1 .left,
+      sym (test .before .launches .ensures) ∙ test .if1 .left,
     )
 
 pub con-store-spec : {M : Type 1} → statement M
