@@ -20,11 +20,14 @@ fn lines() {
 /// A line that goes on after its inputs is no case, be the call accepted or declined.
 #[test]
 fn lines_that_go_on() {
-    let device = "0 0 0 0 0 0 0 0 2147483648 40927 2031616 0 0";
+    let device = "0 0 0 0 0 0 0 0 2147483648 40927 2031616 0 0 0 0 0 0 0 0";
     let startup = format!("startup 1 1 1 {device}");
     let declined = format!("startup 3 1 1 {device}");
     for (line, expected) in [
-        (&startup, "0 0 0 0 0 0 0 0 0 2147483648 40927 2031808 0 0"),
+        (
+            &startup,
+            "0 0 0 0 0 0 0 0 0 2147483648 40927 2031808 0 0 0 0 0 0 0 0",
+        ),
         (&declined, "1"),
     ] {
         assert_eq!(printed(line.as_bytes()), format!("{expected}\n"));
@@ -40,7 +43,7 @@ fn lines_that_go_on() {
 /// Lists that are longer than any that a call takes.
 #[test]
 fn long_lists() {
-    let device = "0 0 0 0 0 0 0 0 2147483648 40927 2031616 0 0";
+    let device = "0 0 0 0 0 0 0 0 2147483648 40927 2031616 0 0 0 0 0 0 0 0";
     let sheet = format!("page_sheet 1 1 1 {device} 64 0 0 64 0 1 63 1");
     let lines = [
         String::from("page 128 5 128 600001 7 1 600000 8 0"),
