@@ -44,6 +44,8 @@ static void print_device(const yohrundel_device *d)
     const uint32_t numbers[] = {
         d->nvmcon, d->nvmkey, d->nvmaddr, d->nvmdata[0], d->nvmdata[1], d->nvmdata[2], d->nvmdata[3],
         d->nvmsrcaddr, d->nvmpwp, d->nvmbwp, d->nvmcon2, d->keystep, d->step,
+        d->launched.nvmaddr, d->launched.nvmdata[0], d->launched.nvmdata[1], d->launched.nvmdata[2], d->launched.nvmdata[3],
+        d->launched.nvmsrcaddr,
     };
     for (size_t i = 0; i < sizeof numbers / sizeof numbers[0]; i++)
         printf(" %" PRIu32, numbers[i]);
@@ -76,14 +78,26 @@ static void reading_calls(yohrundel_device d)
     printf("page %" PRIu32 " %zu %zu\n", page.decline, page.offset, page.length);
 }
 
-/* A step of a quad program that runs: the first quad of bank 2's program page gets NVMDATA0 to 3. */
+/* A device as a launched quad program leaves it: the first quad of bank 2's program page is to get 1 to 4. */
+static yohrundel_device launched(yohrundel_device d)
+{
+    d.nvmcon = YOHRUNDEL_WR | YOHRUNDEL_WREN | YOHRUNDEL_WRERR | 2;
+    d.nvmaddr = d.launched.nvmaddr = 0x1D000080;
+    for (uint32_t i = 0; i < 4; i++)
+        d.nvmdata[i] = d.launched.nvmdata[i] = i + 1;
+    return d;
+}
+
+/* The next target is loaded while the program runs, and the step still writes the quad that was launched. */
 static void step_call(yohrundel_device d)
 {
-    const uint32_t data[4] = {1, 2, 3, 4};
-    d.nvmcon = YOHRUNDEL_WR | YOHRUNDEL_WREN | YOHRUNDEL_WRERR | 2;
-    d.nvmaddr = 0x1D000080;
-    memcpy(d.nvmdata, data, sizeof data);
-    const yohrundel_event_answer stepped = yohrundel_step(GEOMETRY, d, one, WORDS, two, WORDS, NULL, 0);
+    const yohrundel_event_answer loaded =
+        yohrundel_store(GEOMETRY, launched(d), YOHRUNDEL_NVMADDR, YOHRUNDEL_PLAIN, 0x1D000090);
+    printf("store %" PRIu32, loaded.decline);
+    print_device(&loaded.device);
+    printf(" %d\n", loaded.event);
+
+    const yohrundel_event_answer stepped = yohrundel_step(GEOMETRY, loaded.device, one, WORDS, two, WORDS, NULL, 0);
     printf("step %" PRIu32, stepped.decline);
     print_device(&stepped.device);
     printf(" %d 4", stepped.event);

@@ -28,6 +28,11 @@
  *
  *   A sign has two banks of N = B + P pages each, B boot pages and then P program pages. A page has 32×Q words of 32 bits, so a bank,
  *   and an image, has N×32×Q words. The SRAM has at most 16,384 words and may have none.
+ *
+ * Device records that were stored before
+ *
+ *   The device record has a last member, launched, that it did not have: what the running operation was launched with. A record stored
+ *   without it gets it from its registers: where WR is 1 launched is nvmaddr, nvmdata and nvmsrcaddr as they stand, else six zeros.
  */
 #ifndef YOHRUNDEL_H
 #define YOHRUNDEL_H
@@ -68,13 +73,13 @@ enum yohrundel_decline {
     YOHRUNDEL_DECLINE_LENGTH = 2,
     /*
      * The device record is impossible: an unimplemented bit set, NVMBWP bit 6 clear, NVMKEY not 0, key step above 3, WR = 0 with step
-     * number not 0, or WR = 1 with key step not 0, WRERR = 0, LVDERR = 1, an NVMOP or target for which no steps begin, or step number
-     * not below its length.
+     * number or any of launched not 0, or WR = 1 with key step not 0, WRERR = 0, LVDERR = 1, an NVMOP or launched target for which no
+     * steps begin, or step number not below its length.
      */
     YOHRUNDEL_DECLINE_DEVICE = 3,
     /* A register number above 10, a form above 3, or a form other than 0 for NVMKEY. */
     YOHRUNDEL_DECLINE_REGISTER = 4,
-    /* A store, a start-up or an update start with WR = 1. */
+    /* With WR = 1: a store to another register than NVMADDR, NVMDATA0 to 3 and NVMSRCADDR, a start-up or an update start. */
     YOHRUNDEL_DECLINE_RUNNING = 5,
     /* A step with WR = 0. */
     YOHRUNDEL_DECLINE_IDLE = 6,
@@ -82,7 +87,7 @@ enum yohrundel_decline {
     YOHRUNDEL_DECLINE_RESET_KIND = 7,
     /* A flash read outside the four windows or not on a multiple of 4; a page request with a page number of N or more. */
     YOHRUNDEL_DECLINE_ADDRESS = 8,
-    /* A flash read from a bank that the running operation targets. */
+    /* A flash read from a bank that the running operation targets, as it was launched. */
     YOHRUNDEL_DECLINE_BUSY = 9,
     /*
      * Update start: the lower-alias bank's sequence is invalid, a reset would choose the other bank, PFSWAP differs from BFSWAP, or the
@@ -181,7 +186,18 @@ typedef struct yohrundel_geometry {
     uint32_t p;
 } yohrundel_geometry;
 
-/* The device record: eleven registers, the key step and the step number. The first one is given by yohrundel_power_on. */
+/* What an operation works by: its address, its data and its source, as NVMADDR, NVMDATA0 to 3 and NVMSRCADDR give them. */
+typedef struct yohrundel_operands {
+    uint32_t nvmaddr;
+    /* NVMDATA0 to 3. */
+    uint32_t nvmdata[4];
+    uint32_t nvmsrcaddr;
+} yohrundel_operands;
+
+/*
+ * The device record: eleven registers, the key step, the step number, and what the running operation was launched with. The first one is
+ * given by yohrundel_power_on.
+ */
 typedef struct yohrundel_device {
     uint32_t nvmcon;
     /* Reads 0. */
@@ -197,6 +213,11 @@ typedef struct yohrundel_device {
     uint32_t keystep;
     /* The number of the next step of the running operation; 0 where none runs. */
     uint32_t step;
+    /*
+     * The six registers as they stood before the store that launched the running operation, unrounded; all 0 where none runs. The
+     * operation works by these, and the registers may be loaded for the next launch.
+     */
+    yohrundel_operands launched;
 } yohrundel_device;
 
 /* The four words of a torn mask. */
@@ -333,6 +354,27 @@ typedef struct yohrundel_page_sheet_answer {
 } yohrundel_page_sheet_answer;
 
 /*
+ * ---- symbols of the calls that take or give a device
+ *
+ * Since the device record has launched, these calls have new symbols: an object file that was compiled with the record as it was before
+ * does not link with these archives, where its device would be too short. Programs call them by their names, and are compiled again.
+ */
+#define yohrundel_power_on yohrundel_power_on_2
+#define yohrundel_store yohrundel_store_2
+#define yohrundel_register_read yohrundel_register_read_2
+#define yohrundel_start_up yohrundel_start_up_2
+#define yohrundel_flash_read yohrundel_flash_read_2
+#define yohrundel_lower_bank yohrundel_lower_bank_2
+#define yohrundel_step yohrundel_step_2
+#define yohrundel_reset yohrundel_reset_2
+#define yohrundel_update_start yohrundel_update_start_2
+#define yohrundel_turn yohrundel_turn_2
+#define yohrundel_turn_lent yohrundel_turn_lent_2
+#define yohrundel_play yohrundel_play_2
+#define yohrundel_play_length yohrundel_play_length_2
+#define yohrundel_page_sheet yohrundel_page_sheet_2
+
+/*
  * ---- calls on a device alone
  *
  * In every call g is the sign's geometry and d its device.
@@ -341,7 +383,10 @@ typedef struct yohrundel_page_sheet_answer {
 /* The device after power-on, before any comparison of the banks: all reset values. yohrundel_reset compares them. */
 yohrundel_device yohrundel_power_on(void);
 
-/* Stores a value to a register in one of the forms. Declines 1, 3, 4 and 5. */
+/*
+ * Stores a value to a register in one of the forms. While an operation runs, a store to NVMADDR, NVMDATA0 to 3 or NVMSRCADDR changes that
+ * register alone: the operation goes on by what it was launched with, and the new value serves the next launch. Declines 1, 3, 4 and 5.
+ */
 yohrundel_event_answer yohrundel_store(yohrundel_geometry g, yohrundel_device d, uint32_t reg, uint32_t form, uint32_t value);
 
 /*
@@ -368,7 +413,10 @@ yohrundel_compare_answer yohrundel_compare(uint32_t first, uint32_t other);
  * Bank 1 is one with one_words words, bank 2 is two with two_words words.
  */
 
-/* Reads the word at a byte address in one of the four windows. Declines 1, 2, 3, 8 and 9. */
+/*
+ * Reads the word at a byte address in one of the four windows. Declines 1, 2, 3, 8 and 9; whether 9 applies is asked of the launched
+ * address, not of NVMADDR.
+ */
 yohrundel_flash_read_answer yohrundel_flash_read(
     yohrundel_geometry g, yohrundel_device d,
     const uint32_t *one, size_t one_words,
@@ -384,7 +432,10 @@ yohrundel_lower_bank_answer yohrundel_lower_bank(
 /* Says where in a bank a page is, boot pages first, by its number from 0 to N-1. Declines 1, 2 and 8. */
 yohrundel_page_answer yohrundel_page(yohrundel_geometry g, const uint32_t *bank, size_t bank_words, uint32_t page);
 
-/* One step of the running operation, which does one quad. Declines 1, 2, 3 and 6. */
+/*
+ * One step of the running operation, which does one quad, by the address, data and source that it was launched with. Declines 1, 2, 3
+ * and 6.
+ */
 yohrundel_event_answer yohrundel_step(
     yohrundel_geometry g, yohrundel_device d,
     uint32_t *one, size_t one_words,
@@ -393,8 +444,8 @@ yohrundel_event_answer yohrundel_step(
 
 /*
  * A reset. While an operation runs it first tears the quad of the next step: where a bit of the mask is 1 the quad gets the intended bit,
- * where it is 0 it keeps the old one. Then BFSWAP is set by comparing the sequence words, and the answer has the reason. Declines 1, 2, 3
- * and 7.
+ * as it was launched, where it is 0 it keeps the old one. What was loaded since stays in the registers, but for a power-on. Then BFSWAP is
+ * set by comparing the sequence words, and the answer has the reason. Declines 1, 2, 3 and 7.
  */
 yohrundel_reset_answer yohrundel_reset(
     yohrundel_geometry g, yohrundel_device d,

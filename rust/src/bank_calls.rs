@@ -11,7 +11,8 @@ pub struct Stepped {
     pub event: bool,
 }
 
-/// The word at a byte address in one of the four windows.
+/// The word at a byte address in one of the four windows. It is declined where the running operation targets its bank, by the address that
+/// was launched and not by NVMADDR.
 pub fn flash_read(
     geometry: Geometry,
     device: Device,
@@ -44,7 +45,7 @@ pub fn page(geometry: Geometry, bank: &[u32], page: u32) -> Result<&[u32], Decli
     Ok(&bank[answer.offset..][..answer.length])
 }
 
-/// One step of the running operation, which does one quad.
+/// One step of the running operation, which does one quad, by the address, data and source that it was launched with.
 pub fn step(
     geometry: Geometry,
     device: Device,
@@ -71,8 +72,9 @@ pub struct Restarted {
 
 /// A reset of a kind of [`crate::reset_kind`].
 ///
-/// While an operation runs it tears the quad of the next step: the mask chooses, bit by bit, intended (1) or old (0). Then it sets BFSWAP
-/// by comparing the sequence words, and gives the reason.
+/// While an operation runs it tears the quad of the next step: the mask chooses, bit by bit, intended (1), as it was launched, or old (0).
+/// What was loaded since stays in the registers, but for a power-on. Then it sets BFSWAP by comparing the sequence words, and gives the
+/// reason.
 pub fn reset(
     geometry: Geometry,
     device: Device,

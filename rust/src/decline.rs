@@ -14,7 +14,7 @@ pub enum Decline {
     Device = 3,
     /// A register number above 10, a form above 3, or a form other than 0 for NVMKEY.
     Register = 4,
-    /// A store, a start-up or an update start with WR = 1.
+    /// With WR = 1: a store to another register than NVMADDR, NVMDATA0 to 3 and NVMSRCADDR, a start-up or an update start.
     Running = 5,
     /// A step with WR = 0.
     Idle = 6,
@@ -22,7 +22,7 @@ pub enum Decline {
     ResetKind = 7,
     /// A flash read outside the four windows or not on a multiple of 4; a page number of N or more.
     Address = 8,
-    /// A flash read from a bank that the running operation targets.
+    /// A flash read from a bank that the running operation targets, as it was launched.
     Busy = 9,
     /// The sequence words or the mapping do not allow an update.
     Sequence = 10,

@@ -3,7 +3,29 @@
 use crate::ffi;
 use crate::nvmcon::{BFSWAP, PFSWAP, WR};
 
-/// The eleven registers, the key step and the step number of the running operation.
+/// What an operation works by: its address, its data and its source. [`Operands::default`] is all 0.
+#[repr(C)]
+#[derive(Clone, Copy, Debug, Default, PartialEq, Eq, Hash)]
+pub struct Operands {
+    /// NVMADDR.
+    pub nvmaddr: u32,
+    /// NVMDATA0 to 3.
+    pub nvmdata: [u32; 4],
+    /// NVMSRCADDR.
+    pub nvmsrcaddr: u32,
+}
+
+impl Operands {
+    /// NVMADDR, NVMDATA0 to 3 and NVMSRCADDR, in this order.
+    pub fn numbers(&self) -> [u32; 6] {
+        let [zero, one, two, three] = self.nvmdata;
+        [self.nvmaddr, zero, one, two, three, self.nvmsrcaddr]
+    }
+}
+
+/// The eleven registers, the key step, the step number of the running operation and what that was launched with.
+///
+/// A record that was stored when it had no `launched` is completed by [`Device::completed`].
 #[repr(C)]
 #[derive(Clone, Copy, Debug, PartialEq, Eq, Hash)]
 pub struct Device {
@@ -27,6 +49,9 @@ pub struct Device {
     pub keystep: u32,
     /// The number of the next step of the running operation; 0 where none runs.
     pub step: u32,
+    /// NVMADDR, NVMDATA0 to 3 and NVMSRCADDR as they stood before the store that launched the running operation, unrounded; all 0 where
+    /// none runs. The operation works by these, and the registers may be loaded for the next launch.
+    pub launched: Operands,
 }
 
 /// One of the two banks.
@@ -64,6 +89,36 @@ impl Device {
             10 => Some(self.nvmcon2),
             _ => None,
         }
+    }
+
+    /// What the six registers hold now, for the next launch.
+    pub fn loaded(&self) -> Operands {
+        Operands {
+            nvmaddr: self.nvmaddr,
+            nvmdata: self.nvmdata,
+            nvmsrcaddr: self.nvmsrcaddr,
+        }
+    }
+
+    /// The device of a record that was stored without `launched`, whatever that is here: where an operation runs it was launched with what
+    /// the registers hold, for nothing could be stored to them while it ran; where none runs it is all 0.
+    ///
+    /// ```
+    /// use yohrundel::{nvmcon, Device, Operands};
+    ///
+    /// let mut device = Device::power_on();
+    /// device.nvmcon = nvmcon::WR | nvmcon::WREN | nvmcon::WRERR | 2;
+    /// device.nvmaddr = 0x1D00_0080;
+    /// assert_eq!(device.completed().launched, device.loaded());
+    /// assert_eq!(Device::power_on().completed().launched, Operands::default());
+    /// ```
+    pub fn completed(self) -> Device {
+        let launched = if self.operation_runs() {
+            self.loaded()
+        } else {
+            Operands::default()
+        };
+        Device { launched, ..self }
     }
 
     /// Whether an operation runs: WR = 1.

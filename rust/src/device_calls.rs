@@ -21,6 +21,9 @@ pub struct RegisterRead {
 }
 
 /// Stores a value to a register in one of the forms of [`crate::form`].
+///
+/// While an operation runs, a store to NVMADDR, NVMDATA0 to 3 or NVMSRCADDR changes that register alone: the operation goes on by what it
+/// was launched with, and the new value serves the next launch. Stores to other registers are declined then.
 pub fn store(
     geometry: Geometry,
     device: Device,

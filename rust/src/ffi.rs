@@ -1,5 +1,8 @@
 //! The archives' functions and their answers as `include/yohrundel.h` declares them, and the one place that calls them.
 //!
+//! What takes or gives a device has a symbol that ends in `_2`, as in the header: an archive that knows the shorter device of before does
+//! not link.
+//!
 //! A slice is two arguments, a pointer and a count. The functions take every number, every length and every content. What they ask of a
 //! caller a borrow gives: each pointer is that of a slice of as many elements, which lives during the call, and what is written is
 //! borrowed by that call alone.
@@ -109,15 +112,20 @@ pub(crate) struct PlayLengthAnswer {
 }
 
 extern "C" {
+    #[link_name = "yohrundel_power_on_2"]
     fn yohrundel_power_on() -> Device;
 
+    #[link_name = "yohrundel_store_2"]
     fn yohrundel_store(g: Geometry, d: Device, register: u32, form: u32, value: u32)
         -> EventAnswer;
 
+    #[link_name = "yohrundel_register_read_2"]
     fn yohrundel_register_read(g: Geometry, d: Device, register: u32) -> RegisterReadAnswer;
 
+    #[link_name = "yohrundel_start_up_2"]
     fn yohrundel_start_up(g: Geometry, d: Device) -> DeviceAnswer;
 
+    #[link_name = "yohrundel_flash_read_2"]
     fn yohrundel_flash_read(
         g: Geometry,
         d: Device,
@@ -128,6 +136,7 @@ extern "C" {
         address: u32,
     ) -> FlashReadAnswer;
 
+    #[link_name = "yohrundel_lower_bank_2"]
     fn yohrundel_lower_bank(
         g: Geometry,
         d: Device,
@@ -139,6 +148,7 @@ extern "C" {
 
     fn yohrundel_page(g: Geometry, bank: *const u32, bank_words: usize, page: u32) -> PageAnswer;
 
+    #[link_name = "yohrundel_step_2"]
     fn yohrundel_step(
         g: Geometry,
         d: Device,
@@ -150,6 +160,7 @@ extern "C" {
         sram_words: usize,
     ) -> EventAnswer;
 
+    #[link_name = "yohrundel_reset_2"]
     fn yohrundel_reset(
         g: Geometry,
         d: Device,
@@ -165,6 +176,7 @@ extern "C" {
 
     fn yohrundel_compare(first: u32, other: u32) -> CompareAnswer;
 
+    #[link_name = "yohrundel_update_start_2"]
     fn yohrundel_update_start(
         g: Geometry,
         d: Device,
@@ -176,6 +188,7 @@ extern "C" {
         image_words: usize,
     ) -> UpdateStartAnswer;
 
+    #[link_name = "yohrundel_turn_2"]
     fn yohrundel_turn(
         g: Geometry,
         d: Device,
@@ -190,6 +203,7 @@ extern "C" {
         place: u32,
     ) -> TurnAnswer;
 
+    #[link_name = "yohrundel_turn_lent_2"]
     fn yohrundel_turn_lent(
         g: Geometry,
         d: *mut Device,
@@ -204,6 +218,7 @@ extern "C" {
         place: u32,
     ) -> TurnOutcome;
 
+    #[link_name = "yohrundel_play_2"]
     fn yohrundel_play(
         g: Geometry,
         d: Device,
@@ -219,6 +234,7 @@ extern "C" {
         out_bytes: usize,
     ) -> PlayAnswer;
 
+    #[link_name = "yohrundel_play_length_2"]
     fn yohrundel_play_length(
         g: Geometry,
         d: Device,

@@ -41,7 +41,7 @@ mod update_calls;
 pub use bank_calls::{flash_read, lower_bank, page, reset, step, Restarted, Stepped};
 pub use compare::{compare, Compared, Reason};
 pub use decline::Decline;
-pub use device::{Bank, Device};
+pub use device::{Bank, Device, Operands};
 pub use device_calls::{register_read, start_up, store, RegisterRead, Stored};
 pub use geometry::Geometry;
 pub use lanes::{lanes_back, lanes_out};

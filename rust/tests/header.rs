@@ -1,14 +1,15 @@
-//! The numbers of include/yohrundel.h are those of the crate.
+//! The numbers and symbols of include/yohrundel.h are those of the crate.
 
-use std::collections::BTreeMap;
+use std::collections::{BTreeMap, BTreeSet};
 use std::fmt::Debug;
 
 use yohrundel::{form, nvmcon, register, reset_kind, Decline, Reason};
 
+const HEADER: &str = include_str!("../../include/yohrundel.h");
+
 /// Each name that the header gives a number, without its prefix.
 fn header() -> BTreeMap<String, u32> {
-    let lines = include_str!("../../include/yohrundel.h").lines();
-    lines.filter_map(named_number).collect()
+    HEADER.lines().filter_map(named_number).collect()
 }
 
 /// `YOHRUNDEL_NAME = number` or `#define YOHRUNDEL_NAME number`.
@@ -76,4 +77,66 @@ fn numbers() {
     let named = named.map(|(name, number)| (String::from(name), number));
     let expected = declines.into_iter().chain(reasons).chain(named);
     assert_eq!(header(), expected.collect::<BTreeMap<String, u32>>());
+}
+
+/// The crate's declarations of the archives' functions that a device goes through.
+const DECLARED: [&str; 2] = [
+    include_str!("../src/ffi.rs"),
+    include_str!("../src/ffi/sheet.rs"),
+];
+
+/// Each call by its name, with the symbol that the header gives it instead.
+fn renamed() -> BTreeMap<&'static str, &'static str> {
+    let definitions = HEADER
+        .lines()
+        .filter_map(|line| line.strip_prefix("#define "));
+    let pairs = definitions.filter_map(|definition| definition.split_once(' '));
+    pairs
+        .filter(|(name, _)| name.starts_with("yohrundel_"))
+        .collect()
+}
+
+/// The same in the crate: an attribute, and the function in the line after it.
+fn linked() -> BTreeMap<&'static str, &'static str> {
+    let mut linked = BTreeMap::new();
+    for text in DECLARED {
+        let lines = text.lines().map(str::trim);
+        for (attribute, function) in lines.clone().zip(lines.skip(1)) {
+            let Some(symbol) = attribute.strip_prefix("#[link_name = \"") else {
+                continue;
+            };
+            let name = function.trim_start_matches("fn ").split('(').next();
+            linked.insert(name.expect("a name"), symbol.trim_end_matches("\"]"));
+        }
+    }
+    linked
+}
+
+/// The name of a call that a line begins to declare.
+fn declared(line: &'static str) -> Option<&'static str> {
+    let (front, _) = line.split_once('(')?;
+    let (answer, name) = front.split_once(' ')?;
+    answer.starts_with("yohrundel_").then_some(name)
+}
+
+/// The calls that take a device, in their first line or in the second, and the one that gives it alone.
+fn with_a_device() -> BTreeSet<&'static str> {
+    let lines = HEADER.lines().zip(HEADER.lines().skip(1));
+    let takes =
+        |line: &str| line.contains("yohrundel_device d") || line.contains("yohrundel_device *d");
+    let calls = lines.filter(|(first, second)| takes(first) || takes(second));
+    let names = calls.filter_map(|(first, _)| declared(first));
+    names.chain(["yohrundel_power_on"]).collect()
+}
+
+/// A device of another length is a call of another symbol.
+#[test]
+fn symbols_of_calls_with_a_device() {
+    let renamed = renamed();
+    assert_eq!(renamed, linked());
+    let names: BTreeSet<&str> = renamed.keys().copied().collect();
+    assert_eq!(names, with_a_device());
+    for (name, symbol) in renamed {
+        assert_eq!(symbol, format!("{name}_2"));
+    }
 }

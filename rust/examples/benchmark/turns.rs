@@ -50,10 +50,12 @@ impl Start {
     }
 }
 
-/// The eleven registers, the key step and the step number.
+/// The eleven registers, the key step, the step number and what was launched.
 fn numbers(device: &Device) -> Vec<u32> {
     let registers = (0..11).filter_map(|number| device.register(number));
-    registers.chain([device.keystep, device.step]).collect()
+    let steps = [device.keystep, device.step];
+    let launched = device.launched.numbers();
+    registers.chain(steps).chain(launched).collect()
 }
 
 fn started_up(geometry: Geometry) -> Device {
@@ -133,7 +135,8 @@ impl Turns for Outside {
 
     fn numbers(&self) -> Vec<u32> {
         let steps = [self.0.key_step, self.0.step_number];
-        self.0.registers.into_iter().chain(steps).collect()
+        let registers = self.0.registers.into_iter();
+        registers.chain(steps).chain(self.0.launched.numbers()).collect()
     }
 }
 

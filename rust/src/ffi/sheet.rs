@@ -9,6 +9,7 @@ pub(crate) struct PageSheetAnswer {
 }
 
 extern "C" {
+    #[link_name = "yohrundel_page_sheet_2"]
     fn yohrundel_page_sheet(
         g: Geometry,
         d: Device,

@@ -20,7 +20,8 @@ pub fn join(numbers: &[u64]) -> String {
 pub fn device_numbers(device: &Device) -> Vec<u64> {
     let registers = (0..11).filter_map(|number| device.register(number));
     let steps = [device.keystep, device.step];
-    registers.chain(steps).map(u64::from).collect()
+    let numbers = registers.chain(steps).chain(device.launched.numbers());
+    numbers.map(u64::from).collect()
 }
 
 pub fn device_and_event(device: &Device, event: bool) -> Vec<u64> {

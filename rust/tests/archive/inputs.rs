@@ -1,6 +1,6 @@
 //! The inputs of a case's line.
 
-use yohrundel::{Device, Geometry};
+use yohrundel::{Device, Geometry, Operands};
 
 /// The words of a line, taken from its front.
 pub struct Inputs<'a>(std::str::Split<'a, char>);
@@ -40,6 +40,11 @@ impl<'a> Inputs<'a> {
             nvmcon2: self.number(),
             keystep: self.number(),
             step: self.number(),
+            launched: Operands {
+                nvmaddr: self.number(),
+                nvmdata: self.four(),
+                nvmsrcaddr: self.number(),
+            },
         }
     }
 

@@ -5,7 +5,7 @@ use model::geometry::Geometry as OutsideGeometry;
 use model::sheet::sheet_bytes;
 use model::store as forms;
 use model::Refusal;
-use yohrundel::{form, nvmcon, register, Decline, Device, Geometry};
+use yohrundel::{form, nvmcon, register, Decline, Device, Geometry, Operands};
 
 #[test]
 fn sizes_of_every_geometry() {
@@ -102,4 +102,5 @@ fn power_on_has_the_reset_values() {
     }
     assert_eq!(device.register(RESETS.len() as u32), None);
     assert_eq!([device.keystep, device.step], [0, 0]);
+    assert_eq!(device.launched, Operands::default());
 }

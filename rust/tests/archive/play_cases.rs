@@ -104,6 +104,7 @@ impl Bench {
         let mut numbers = vec![0, playback.output.len() as u32];
         numbers.extend(playback.device.registers);
         numbers.extend([playback.device.key_step, playback.device.step_number]);
+        numbers.extend(playback.device.launched.numbers());
         let mut changed = Vec::new();
         for (bank, after) in playback.banks.iter().enumerate() {
             for (index, (old, new)) in self.0.lists[bank].words().iter().zip(after).enumerate() {

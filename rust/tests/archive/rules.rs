@@ -40,6 +40,7 @@ pub fn protected(inputs: &mut Inputs) -> bool {
         nvmcon: device.nvmcon & (BFSWAP | PFSWAP) | WREN | 4,
         nvmaddr: window + page * 4 * words,
         keystep: 3,
+        launched: Operands::default(),
         ..device
     };
     let launched = store(sign, erase, NVMCON, SET, WR)

@@ -53,6 +53,11 @@ fn device(outside: &OutsideDevice) -> Device {
         nvmcon2: register(10),
         keystep: outside.key_step,
         step: outside.step_number,
+        launched: Operands {
+            nvmaddr: outside.launched.address,
+            nvmdata: outside.launched.data,
+            nvmsrcaddr: outside.launched.source,
+        },
     }
 }
 

@@ -1,6 +1,6 @@
 //! The parts of a line left of its bar.
 
-use yohrundel::{Device, Geometry};
+use yohrundel::{Device, Geometry, Operands};
 
 /// The line is no case of a call.
 pub struct NoCase;
@@ -50,7 +50,7 @@ impl<'a> Inputs<'a> {
         })
     }
 
-    /// D: the eleven registers in the order of their numbers, the key step, the step number.
+    /// D: the eleven registers in the order of their numbers, the key step, the step number, what was launched.
     pub fn device(&mut self) -> Result<Device, NoCase> {
         Ok(Device {
             nvmcon: self.number()?,
@@ -63,6 +63,16 @@ impl<'a> Inputs<'a> {
             nvmcon2: self.number()?,
             keystep: self.number()?,
             step: self.number()?,
+            launched: self.operands()?,
+        })
+    }
+
+    /// NVMADDR, NVMDATA0 to 3, NVMSRCADDR.
+    fn operands(&mut self) -> Result<Operands, NoCase> {
+        Ok(Operands {
+            nvmaddr: self.number()?,
+            nvmdata: self.four()?,
+            nvmsrcaddr: self.number()?,
         })
     }
 
@@ -119,7 +129,9 @@ impl<'a> Inputs<'a> {
     /// "n, then n pairs", without the n.
     pub fn pairs(&mut self) -> Result<Vec<[u32; 2]>, NoCase> {
         let count = self.count()?;
-        (0..count).map(|_| Ok([self.number()?, self.number()?])).collect()
+        (0..count)
+            .map(|_| Ok([self.number()?, self.number()?]))
+            .collect()
     }
 }
 

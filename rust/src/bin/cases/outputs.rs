@@ -37,7 +37,8 @@ impl Outputs {
     pub fn device(mut self, device: &Device) -> Outputs {
         let registers = (0..11).filter_map(|number| device.register(number));
         let steps = [device.keystep, device.step];
-        self.0.extend(registers.chain(steps).map(u64::from));
+        let numbers = registers.chain(steps).chain(device.launched.numbers());
+        self.0.extend(numbers.map(u64::from));
         self
     }
 
