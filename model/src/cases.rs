@@ -173,7 +173,7 @@ impl Case {
             two: &mut two,
         };
         let mut outputs = self.call_with_banks(&mut banks)?;
-        if matches!(self.call, Call::Step | Call::Reset | Call::Turn) {
+        if !matches!(self.call, Call::LowerBank | Call::UpdateStart) {
             outputs.extend(changes(&before, &[one, two]));
         }
         Ok(outputs)
@@ -183,7 +183,12 @@ impl Case {
         let (geometry, device, numbers) = (self.geometry, self.device, &self.numbers);
         let third = self.lists.get(2).map_or(Vec::new(), List::words);
         match self.call {
-            Call::FlashRead => Ok(vec![flash_read(geometry, &device, banks, numbers[0])?]),
+            Call::FlashRead => {
+                let read = flash_read(geometry, device, banks, &third, numbers[0])?;
+                let mut outputs = vec![read.word, u32::from(read.event)];
+                put_device(&read.device, &mut outputs);
+                Ok(outputs)
+            }
             Call::LowerBank => {
                 let lower = lower_bank(geometry, &device, banks)?;
                 let first = lower.as_ptr() == banks.one.as_ptr();

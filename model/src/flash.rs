@@ -189,20 +189,52 @@ pub fn reset_choice(geometry: &Geometry, banks: &Banks) -> Comparison {
     compare(banks.one[index], banks.two[index])
 }
 
-/// The word at an address; nothing changes.
-pub fn flash_read(numbers: [u32; 3], device: &Device, banks: &Banks, address: u32) -> Answer<u32> {
+/// What a flash read gives and leaves; with an event where it waited.
+#[derive(Clone, Copy, Debug, PartialEq, Eq)]
+pub struct Read {
+    pub word: u32,
+    pub event: bool,
+    pub device: Device,
+}
+
+/// The word at an address; where it lies in a bank that the running operation targets, after the operation's end.
+pub fn flash_read(
+    numbers: [u32; 3],
+    device: Device,
+    banks: &mut Banks,
+    sram: &[u32],
+    address: u32,
+) -> Answer<Read> {
     let geometry = Geometry::new(numbers)?;
     banks.check(&geometry)?;
-    check_device(&geometry, device)?;
+    check_sram(sram)?;
+    check_device(&geometry, &device)?;
     let location = geometry.locate(address).ok_or(Refusal::Address)?;
     if !address.is_multiple_of(4) {
         return Err(Refusal::Address);
     }
     let bank = device.bank_at(location.kind, location.side);
-    if targets(&geometry, device, bank) {
-        return Err(Refusal::TargetBank);
+    let event = targets(&geometry, &device, bank);
+    let device = if event {
+        carry_out(&geometry, device, banks, sram)
+    } else {
+        device
+    };
+    let word = banks.words(bank)[geometry.word_index(location)];
+    Ok(Read {
+        word,
+        event,
+        device,
+    })
+}
+
+/// W-207: "the remaining steps, up to an abort if one comes".
+fn carry_out(geometry: &Geometry, device: Device, banks: &mut Banks, sram: &[u32]) -> Device {
+    let mut after = device;
+    while after.running() {
+        after = apply_step(geometry, after, banks, sram).0;
     }
-    Ok(banks.words(bank)[geometry.word_index(location)])
+    after
 }
 
 /// "the lent bank itself".

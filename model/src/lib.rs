@@ -30,6 +30,7 @@ pub enum Refusal {
     NotRunning = 6,
     ResetKind = 7,
     Address = 8,
+    /// No call is declined with it: since W-207 such a read waits.
     TargetBank = 9,
     Sequence = 10,
     LastSequence = 11,

@@ -20,6 +20,11 @@ const AFTER_DEVICE: usize = 20;
 /// Where the event stands in a turn's answer: after done, the device and the place.
 const TURN_EVENT: usize = 22;
 
+/// Where the event and NVMCON stand in a flash read's answer, and what changed in the banks.
+const READ_EVENT: usize = 2;
+const READ_CON: usize = 3;
+const READ_CHANGES: usize = 22;
+
 fn numbers(case: &Case) -> Vec<u32> {
     let answer = case.answer().expect("a case of a known call");
     answer
@@ -53,6 +58,10 @@ fn outcome(case: &Case) -> String {
         Call::Step if numbers[AFTER_DEVICE + 1] > 0 => "written",
         Call::Step if numbers[AFTER_DEVICE] == 1 && numbers[CON] & WRERR != 0 => "aborted",
         Call::Step => "counted",
+        Call::FlashRead if numbers[READ_EVENT] == 0 => "accepted",
+        Call::FlashRead if numbers[READ_CON] & WRERR != 0 => "aborted",
+        Call::FlashRead if numbers[READ_CHANGES] > 0 => "written",
+        Call::FlashRead => "counted",
         Call::Reset if numbers[AFTER_DEVICE + 1] > 0 => "torn",
         Call::Reset => "untouched",
         Call::Turn if numbers[1] == 1 => "done",
@@ -80,7 +89,7 @@ fn outcomes() -> BTreeMap<(&'static str, &'static str), BTreeSet<String>> {
 const EXPECTED: &[(&str, &str, &str)] = &[
     ("rows", "step", "written aborted counted 2"),
     ("rows", "reset", "torn untouched 2"),
-    ("reads", "flash_read", "accepted 8 9"),
+    ("reads", "flash_read", "accepted written aborted counted 8"),
     ("reads", "lower_bank", "accepted"),
     ("launches", "store", "launched failed accepted"),
     ("steps", "step", "written aborted counted"),
@@ -93,7 +102,7 @@ const EXPECTED: &[(&str, &str, &str)] = &[
     ("start_ups", "startup", "accepted 5"),
     ("orders", "store", "accepted 1 3 4 5"),
     ("orders", "register_read", "accepted 1 3 4"),
-    ("orders", "flash_read", "accepted 1 2 3 8 9"),
+    ("orders", "flash_read", "accepted counted 1 2 3 8"),
     ("orders", "lower_bank", "1 2 3"),
     ("orders", "page", "accepted 1 2 8"),
     ("orders", "step", "counted 1 2 3 6"),
@@ -117,7 +126,7 @@ const EXPECTED: &[(&str, &str, &str)] = &[
     ("loads", "possible", "0 1"),
     ("loads", "store", "loaded launched failed accepted 3 4 5"),
     ("loads", "register_read", "accepted 3 4"),
-    ("loads", "flash_read", "accepted 3 9"),
+    ("loads", "flash_read", "accepted written aborted 3"),
     ("loads", "lower_bank", "accepted 3"),
     ("loads", "step", "written aborted counted 3"),
     ("loads", "reset", "torn untouched 3"),
@@ -126,6 +135,17 @@ const EXPECTED: &[(&str, &str, &str)] = &[
     ("loads", "turn", "accepted written event done 3 5 13"),
     ("loads", "page_sheet", "accepted"),
     ("loads", "walk", "written"),
+    (
+        "waits",
+        "flash_read",
+        "accepted written aborted counted 2 8",
+    ),
+    ("waits", "turn", "accepted done 6"),
+    ("waits", "step", "6"),
+    ("waits", "reset", "untouched"),
+    ("waits", "startup", "accepted"),
+    ("waits", "update_start", "accepted 10"),
+    ("waits", "walk", "written untouched"),
 ];
 
 #[test]
@@ -153,6 +173,16 @@ fn every_call_declines_an_impossible_device() {
     ] {
         let expected = BTreeSet::from([String::from("3")]);
         assert_eq!(outcomes[&("impossible", call)], expected, "{call}");
+    }
+}
+
+/// "Decline 9 no longer occurs".
+#[test]
+fn no_call_is_declined_with_9() {
+    for ((subject, call), outcomes) in outcomes() {
+        if !matches!(call, "compare" | "plan") {
+            assert!(!outcomes.contains("9"), "{subject} {call}");
+        }
     }
 }
 

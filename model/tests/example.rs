@@ -150,11 +150,12 @@ fn calls() {
     let cases = [
         format!("store 1 1 1 {IDLE} 2 0 486539392"),
         format!("register_read 1 1 1 {stored_address} 2"),
-        format!("flash_read 1 1 1 {IDLE} {BANKS} 532676720"),
+        format!("flash_read 1 1 1 {IDLE} {BANKS} 0 0 0 532676720"),
         format!("lower_bank 1 1 1 {IDLE} {BANKS}"),
         String::from("page 1 1 1 64 4294967295 0 1"),
         format!("store 1 1 1 {RUNNING} 2 0 486539408"),
         format!("step 1 1 1 {loaded} {BANKS} 0 0 0"),
+        format!("flash_read 1 1 1 {RUNNING} {BANKS} 0 0 0 486539400"),
         String::from("plan 200 60 2 1500 240 9960 360"),
         String::from("compare_reason 4294836225 4294967295"),
         String::from("lanes_out 8 0 8 0 1 1 2 2 3 3 4 4 5 5 6 6 7 7 8 8 0 0"),

@@ -169,15 +169,17 @@ fn a_reset_tears_by_what_was_launched() {
 #[test]
 fn a_flash_read_asks_the_launched_target() {
     let [mut one, mut two] = blank();
-    let banks = Banks {
+    let mut banks = Banks {
         one: &mut one,
         two: &mut two,
     };
     let device = loaded(launched(4, FIRST), LATER);
-    let refused = flash_read(SMALL, &device, &banks, LOWER_PROGRAM);
-    assert_eq!(refused, Err(Refusal::TargetBank));
-    let word = flash_read(SMALL, &device, &banks, UPPER_BOOT);
-    assert_eq!(word, Ok(ALL_ONES));
+    let other = flash_read(SMALL, device, &mut banks, &[], UPPER_BOOT).unwrap();
+    assert_eq!((other.event, other.device), (false, device));
+    let target = flash_read(SMALL, device, &mut banks, &[], LOWER_PROGRAM).unwrap();
+    assert!(target.event && !target.device.running());
+    assert_eq!(target.device.launched, Operands::NONE);
+    assert_eq!(target.device.loaded().numbers(), LATER);
 }
 
 #[test]

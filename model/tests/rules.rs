@@ -1,7 +1,7 @@
 //! Single rules of the paper, the traps among them.
 
 use model::device::*;
-use model::flash::{flash_read, reset, step};
+use model::flash::{reset, step};
 use model::generate::old_bank_one;
 use model::geometry::{Banks, Geometry, ALL_ONES};
 use model::store::{register_read, start_up, store, CLEAR, INVERT, PLAIN, SET};
@@ -128,15 +128,8 @@ fn a_brown_out_tears_and_keeps_nvmers() {
 }
 
 #[test]
-fn reads() {
-    let [mut one, mut two] = small_banks();
-    let word = one[5];
-    let banks = Banks {
-        one: &mut one,
-        two: &mut two,
-    };
+fn register_reads_and_the_key() {
     let open = with_key(Device::reset_values());
-    assert_eq!(flash_read(SMALL, &open, &banks, 0x1FC0_0014), Ok(word));
     let (value, after) = register_read(SMALL, open, NVMBWP as u32).unwrap();
     assert_eq!((value, after.key_step), (0x9FDF, 0));
     for (before, left) in [(0, 0), (1, 1), (2, 0), (3, 0)] {
@@ -149,10 +142,6 @@ fn reads() {
         };
         assert_eq!(after, expected);
     }
-    let running = stored(ready(4, 0x1D00_0080), NVMCON, SET, WR);
-    assert_eq!(flash_read(SMALL, &running, &banks, 0x1FC0_0014), Ok(word));
-    let refused = flash_read(SMALL, &running, &banks, 0x1FC2_0014);
-    assert_eq!(refused, Err(Refusal::TargetBank));
 }
 
 #[test]

@@ -74,7 +74,7 @@ pub const SHAPES: [Shape; 20] = [
     shape(Call::Protected, "protected", true, true, 0, 3),
     shape(Call::Store, "store", true, true, 0, 3),
     shape(Call::RegisterRead, "register_read", true, true, 0, 1),
-    shape(Call::FlashRead, "flash_read", true, true, 2, 1),
+    shape(Call::FlashRead, "flash_read", true, true, 3, 1),
     shape(Call::LowerBank, "lower_bank", true, true, 2, 0),
     shape(Call::Page, "page", true, false, 1, 1),
     shape(Call::Step, "step", true, true, 3, 0),

@@ -85,8 +85,8 @@ impl Case {
             }
             4 => (start_up(geometry, device)?, 0, false),
             _ => {
-                let word = flash_read(geometry, &device, &banks, numbers[0])?;
-                (device, word, false)
+                let read = flash_read(geometry, device, &mut banks, sram, numbers[0])?;
+                (read.device, read.word, read.event)
             }
         };
         self.device = after;

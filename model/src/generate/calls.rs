@@ -163,7 +163,11 @@ fn put_image(random: &mut Random, case: &mut Case, mut image: Vec<u32>) {
 
 fn put_sram(random: &mut Random, case: &mut Case) {
     let sram = memory::sram(random, &case.device);
-    let mut list = List::from_words(&sram);
+    put_sram_words(random, case, &sram);
+}
+
+fn put_sram_words(random: &mut Random, case: &mut Case, words: &[u32]) {
+    let mut list = List::from_words(words);
     if random.one_in(2 * SPOILED) {
         list.length = SRAM_LIMIT + random.pick(&[1, 2, 3_616]);
     }
@@ -171,10 +175,21 @@ fn put_sram(random: &mut Random, case: &mut Case) {
 }
 
 fn flash_read_case(random: &mut Random, geometry: &Geometry, case: &mut Case) {
-    if case.device.running() && random.one_in(2) {
-        case.device = devices::idle(random, geometry);
+    if !case.device.running() && random.one_in(2) {
+        case.device = devices::running(random, geometry);
     }
-    bank_lists(random, geometry, case);
+    if possible(geometry, &case.device) {
+        devices::near_the_end(random, geometry, &mut case.device);
+    }
+    let pair = memory::sequence_pair(random);
+    let mut banks = memory::banks(random, geometry, pair);
+    if possible(geometry, &case.device) {
+        memory::prepare_quad(random, geometry, &case.device, &mut banks);
+        memory::prepare_row(random, geometry, &case.device, &mut banks);
+    }
+    put_banks(random, case, banks);
+    let sram = memory::row_sram(random, geometry, &case.device);
+    put_sram_words(random, case, &sram);
     let mut address = devices::address(random, geometry);
     if !random.one_in(8) {
         address &= !3;

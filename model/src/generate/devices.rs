@@ -5,6 +5,9 @@ use crate::geometry::{Geometry, Kind, Side, MOST_PROGRAM_PAGES, ROW_QUADS};
 use crate::operation::{judge, Judgement};
 use crate::random::Random;
 
+/// The most steps that a generated flash read waits for.
+const MOST_STEPS: u32 = 256;
+
 /// A geometry whose banks have at most `max_words` words, or the smallest one.
 pub fn geometry(random: &mut Random, max_words: u32) -> Geometry {
     let fitting = ROW_QUADS.iter().filter(|quads| 64 * **quads <= max_words);
@@ -213,6 +216,17 @@ pub fn load_since(random: &mut Random, geometry: &Geometry, device: &mut Device)
             }
             device.registers[NVMSRCADDR] = source(random);
         }
+    }
+}
+
+/// Few steps are left of a long operation, so that what a read that waits changes fits a line.
+pub fn near_the_end(random: &mut Random, geometry: &Geometry, device: &mut Device) {
+    if !device.running() {
+        return;
+    }
+    let length = operation_length(geometry, device);
+    if length - device.step_number > MOST_STEPS {
+        device.step_number = length - random.between(1, MOST_STEPS);
     }
 }
 

@@ -6,6 +6,7 @@ mod keys;
 mod lanes;
 mod launches;
 mod loads;
+mod operations;
 mod orders;
 mod pages;
 mod parts;
@@ -24,6 +25,7 @@ mod sums;
 mod swaps;
 mod tears;
 mod updates;
+mod waits;
 
 pub use orders::ordered;
 pub use sheets::ordered_sheets;
@@ -62,7 +64,7 @@ pub const SUBJECTS: [Subject; 16] = [
 ];
 
 /// Subjects of the calls that later requests added.
-pub const REQUEST_SUBJECTS: [Subject; 7] = [
+pub const REQUEST_SUBJECTS: [Subject; 8] = [
     subject("plans", plans::cases),
     subject("sheets", sheets::cases),
     subject("lanes", lanes::cases),
@@ -70,6 +72,7 @@ pub const REQUEST_SUBJECTS: [Subject; 7] = [
     subject("probes", probes::cases),
     subject("reasons", reasons::cases),
     subject("loads", loads::cases),
+    subject("waits", waits::cases),
 ];
 
 /// The cases of the base's subjects.

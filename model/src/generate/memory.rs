@@ -99,6 +99,47 @@ pub fn prepare_quad(
     }
 }
 
+/// For a row, makes what is left of it blank, in one case of three but for one bit.
+pub fn prepare_row(
+    random: &mut Random,
+    geometry: &Geometry,
+    device: &Device,
+    banks: &mut [Vec<u32>; 2],
+) {
+    if device.nvmop() != 3 {
+        return;
+    }
+    let Some(location) = next_quad(geometry, device) else {
+        return;
+    };
+    let bank = device.bank_at(location.kind, location.side).number() as usize - 1;
+    let first = geometry.word_index(location);
+    let length = 4 * (geometry.row_quads - device.step_number);
+    let rest = &mut banks[bank][first..first + length as usize];
+    rest.fill(ALL_ONES);
+    if random.one_in(3) {
+        rest[random.below(length) as usize] = !(1 << random.below(32));
+    }
+}
+
+/// SRAM that ends with the words of a running row, a word or some quads before, or as for its next step.
+pub fn row_sram(random: &mut Random, geometry: &Geometry, device: &Device) -> Vec<u32> {
+    let last = u64::from(device.launched.source) / 4 + 4 * u64::from(geometry.row_quads);
+    if device.nvmop() != 3 || last > 16_384 || random.one_in(4) {
+        return sram(random, device);
+    }
+    let missing = match random.below(4) {
+        0 => 1,
+        1 => 4 * random.below(geometry.row_quads),
+        _ => 0,
+    };
+    let mut sram = words(random, (last - u64::from(missing)) as usize);
+    for (index, word) in sram.iter_mut().enumerate().rev().take(24) {
+        *word = 0x0A00_0000 + index as u32;
+    }
+    sram
+}
+
 /// SRAM that ends near the words the next row step needs, or of some other length.
 pub fn sram(random: &mut Random, device: &Device) -> Vec<u32> {
     let source = if device.running() {

@@ -107,6 +107,9 @@ fn operation(random: &mut Random, geometry: &Geometry, moves: &mut Moves) {
         }
         moves.step();
     }
+    if random.one_in(3) {
+        moves.flash_read(devices::inside_address(random, geometry) & !3);
+    }
 }
 
 /// A store to NVMADDR, NVMDATA0 to 3 or NVMSRCADDR, or a flash read, while the operation runs.

@@ -2,7 +2,7 @@
 
 use crate::cases::Case;
 use crate::device::*;
-use crate::geometry::{ALL_ONES, LOWER_BOOT, LOWER_PROGRAM, SRAM_LIMIT, UPPER_BOOT};
+use crate::geometry::{ALL_ONES, LOWER_BOOT, SRAM_LIMIT, UPPER_BOOT};
 use crate::list::List;
 use crate::sequence::word_of;
 use crate::store::{PLAIN, SET};
@@ -23,7 +23,10 @@ pub fn cases() -> Vec<Case> {
 pub fn ordered() -> Vec<(u32, Case)> {
     let (banks, running) = (blank(&SMALL), running(5, 0, 0));
     let stored = store(&SMALL, idle(), NVMPWP, PLAIN, 1);
-    let read = flash_read(&SMALL, running, &banks, UPPER_BOOT);
+    let reads = [UPPER_BOOT, LOWER_BOOT].map(|address| {
+        let read = flash_read(&SMALL, running, &banks, address);
+        combined(read, &[GEOMETRY, MEMORY, DEVICE, (8, &ADDRESSES)])
+    });
     let torn = reset(&SMALL, running, &banks, &[], 0, [0; 4]);
     [
         combined(stored, &[GEOMETRY, DEVICE, (4, &FORMS), RUNNING]),
@@ -31,10 +34,7 @@ pub fn ordered() -> Vec<(u32, Case)> {
             register_read(&SMALL, idle(), 2),
             &[GEOMETRY, DEVICE, REGISTER],
         ),
-        combined(
-            read,
-            &[GEOMETRY, LENGTHS, DEVICE, (8, &ADDRESSES), (9, &[own_bank])],
-        ),
+        reads.concat(),
         combined(
             lower_bank(&SMALL, idle(), &banks),
             &[GEOMETRY, LENGTHS, DEVICE],
@@ -190,15 +190,6 @@ fn runs_in_boot_pages(case: &mut Case) {
 fn idles(case: &mut Case) {
     case.device.clear_con(WR);
     case.device.launched = Operands::NONE;
-}
-
-/// The lower region's bank is the lower alias's.
-fn own_bank(case: &mut Case) {
-    let address = &mut case.numbers[0];
-    *address = match *address {
-        UPPER_BOOT => LOWER_BOOT,
-        other => other - UPPER_BOOT + LOWER_PROGRAM,
-    };
 }
 
 fn outside(case: &mut Case) {

@@ -222,9 +222,20 @@ pub fn start_up(geometry: &Geometry, device: Device) -> Case {
     case(Call::StartUp, geometry, device)
 }
 
+/// Without SRAM.
 pub fn flash_read(geometry: &Geometry, device: Device, banks: &Pair, address: u32) -> Case {
-    let mut case = case(Call::FlashRead, geometry, device);
-    lists(&mut case, banks);
+    flash_read_with(geometry, device, banks, &[], address)
+}
+
+pub fn flash_read_with(
+    geometry: &Geometry,
+    device: Device,
+    banks: &Pair,
+    sram: &[u32],
+    address: u32,
+) -> Case {
+    let mut case = step(geometry, device, banks, sram);
+    case.call = Call::FlashRead;
     case.numbers = vec![address];
     case
 }
@@ -319,7 +330,9 @@ pub fn lanes(source: &[u8], target: &[u8]) -> [Case; 2] {
 /// The lists that are as long as a bank: all but the SRAM and a buffer.
 pub fn bank_lists(case: &mut Case) -> &mut [List] {
     let count = match case.call {
-        Call::Step | Call::Reset | Call::Turn | Call::PageSheet => case.lists.len() - 1,
+        Call::FlashRead | Call::Step | Call::Reset | Call::Turn | Call::PageSheet => {
+            case.lists.len() - 1
+        }
         _ => case.lists.len(),
     };
     &mut case.lists[..count]

@@ -131,7 +131,8 @@ fn sram_lengths(cases: &mut Vec<Case>) {
         65_536,
     ] {
         for mut case in accepted() {
-            if matches!(case.call, Call::Step | Call::Reset | Call::Turn) {
+            let lent = [Call::FlashRead, Call::Step, Call::Reset, Call::Turn];
+            if lent.contains(&case.call) {
                 if let Some(sram) = case.lists.last_mut() {
                     sram.length = length;
                     sram.fill = 0;

@@ -4,6 +4,8 @@ mod signs;
 mod starts;
 mod turns;
 
+pub use signs::Sign;
+
 use crate::cases::Case;
 
 pub fn cases() -> Vec<Case> {

@@ -5,8 +5,8 @@ use crate::device::*;
 use crate::geometry::{Geometry, ALL_ONES, LOWER_BOOT, LOWER_PROGRAM, UPPER_BOOT};
 
 use super::super::impossible::calls_on;
+use super::super::operations::*;
 use super::super::parts::*;
-use super::{later, launched, then_loaded};
 
 pub fn cases() -> Vec<Case> {
     let mut cases = Vec::new();

@@ -5,8 +5,8 @@ use crate::device::*;
 use crate::geometry::{Geometry, Kind, Side, ALL_ONES, LOWER_BOOT, LOWER_PROGRAM, UPPER_BOOT};
 use crate::sequence::word_of;
 
+use super::super::operations::*;
 use super::super::parts::*;
-use super::{later, launched, sram, then_loaded};
 
 const WHOLE: [u32; 4] = [ALL_ONES; 4];
 
@@ -35,11 +35,6 @@ pub fn cases() -> Vec<Case> {
         reads(mapping, &mut cases);
     }
     cases
-}
-
-/// Banks on which an operation of NVMOP writes.
-fn ground(geometry: &Geometry, nvmop: u32) -> Pair {
-    filled(geometry, if nvmop < 4 { ALL_ONES } else { 0x1234_0000 })
 }
 
 /// The same inputs as a step and as a reset of each kind in turn.
@@ -155,7 +150,7 @@ fn sequence_quads(cases: &mut Vec<Case>) {
     }
 }
 
-/// Decline 9: the launched bank, not the one that NVMADDR names; NVMOP 5 to 7 have no address.
+/// A read of the launched bank waits, not one of the bank that NVMADDR names; NVMOP 5 to 7 have no address.
 fn reads(mapping: u32, cases: &mut Vec<Case>) {
     for nvmop in 2..8 {
         for (target, other) in [

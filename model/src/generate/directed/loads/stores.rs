@@ -6,8 +6,8 @@ use crate::geometry::{ALL_ONES, LOWER_BOOT, LOWER_PROGRAM, UPPER_BOOT};
 use crate::store::{CLEAR, INVERT, PLAIN, SET};
 use crate::update::{program_place, total};
 
+use super::super::operations::*;
 use super::super::parts::*;
-use super::{later, launched, then_loaded};
 
 pub fn cases() -> Vec<Case> {
     let mut cases = Vec::new();

@@ -1,14 +1,13 @@
 //! Lists of calls: the next operation loaded while one runs, and launched by its keys alone.
 
-use crate::cases::{Call, Case};
+use crate::cases::Case;
 use crate::device::*;
-use crate::geometry::{Geometry, ALL_ONES, LOWER_PROGRAM, UPPER_BOOT};
-use crate::list::List;
-use crate::store::{CLEAR, INVERT, KEYS, PLAIN, SET};
+use crate::geometry::{ALL_ONES, LOWER_PROGRAM, UPPER_BOOT};
+use crate::store::{CLEAR, INVERT, PLAIN, SET};
 
 use super::super::super::walks::Moves;
+use super::super::operations::*;
 use super::super::parts::*;
-use super::sram;
 
 pub fn cases() -> Vec<Case> {
     let mut cases = Vec::new();
@@ -27,64 +26,21 @@ pub fn cases() -> Vec<Case> {
     cases
 }
 
-/// The moves on a sign of blank banks; boot pages are free.
-fn walk(geometry: &Geometry, fill: u32, moves: &Moves) -> Case {
-    let device = with_register(idle(), NVMBWP, UNPROTECTED);
-    let mut case = case(Call::Walk, geometry, device);
-    lists(&mut case, &filled(geometry, fill));
-    case.lists.push(List::from_words(&sram()));
-    case.numbers = moves.numbers();
-    case
-}
-
-/// The keys and NVMCON set 0x8000.
-fn launch_now(moves: &mut Moves) {
-    for key in KEYS {
-        moves.store(NVMKEY, PLAIN, key);
-    }
-    moves.store(NVMCON, SET, WR);
-}
-
-/// NVMADDR, NVMSRCADDR and NVMDATA0 to 3, by a form.
-fn load(moves: &mut Moves, form: u32, address: u32, word: u32) {
-    moves.store(NVMADDR, form, address);
-    moves.store(NVMSRCADDR, form, word % 64);
-    for number in 0..4 {
-        moves.store(NVMDATA0 + number, form, word + number as u32);
-    }
-}
-
-/// Loads, NVMOP, WREN, keys, launch.
-fn begin(moves: &mut Moves, nvmop: u32, address: u32) {
-    load(moves, PLAIN, address, 0x0001_0000);
-    moves.store(NVMCON, PLAIN, nvmop);
-    moves.store(NVMCON, SET, WREN);
-    launch_now(moves);
-}
-
-fn ground(nvmop: u32) -> u32 {
-    if nvmop < 4 {
-        ALL_ONES
-    } else {
-        0x1234_0000
-    }
-}
-
-/// A load by each form before each of the first steps, reads of both banks, and what the registers hold at the end.
+/// A load by each form before each of the first steps, then reads of both banks, and what the registers hold at the end.
 fn between_steps(nvmop: u32, form: u32, cases: &mut Vec<Case>) {
     let geometry = geometry(2, 1, 1);
     let mut moves = Moves::default();
     begin(&mut moves, nvmop, LOWER_PROGRAM + 0x2B);
     for number in 0..3 {
         load(&mut moves, form, UPPER_BOOT + 16 * number, 0xF0F0 + number);
-        moves.flash_read(LOWER_PROGRAM);
-        moves.flash_read(UPPER_BOOT);
         moves.step();
     }
+    moves.flash_read(LOWER_PROGRAM);
+    moves.flash_read(UPPER_BOOT);
     for register in NVMADDR..=NVMSRCADDR {
         moves.register_read(register as u32);
     }
-    cases.push(walk(&geometry, ground(nvmop), &moves));
+    cases.push(walk(&geometry, fill(nvmop), &moves));
 }
 
 /// A reset after a load tears by what was launched; a launch after it, its error cleared, works by what was loaded.
@@ -102,7 +58,7 @@ fn cut_after_a_load(nvmop: u32, kind: u32, cases: &mut Vec<Case>) {
     moves.store(NVMCON, SET, WREN);
     launch_now(&mut moves);
     moves.step();
-    cases.push(walk(&SMALL, ground(nvmop), &moves));
+    cases.push(walk(&SMALL, fill(nvmop), &moves));
 }
 
 /// Quads and rows, each loaded while the one before runs: nothing but keys and launch between them.
@@ -176,6 +132,6 @@ fn lost_launches(cases: &mut Vec<Case>) {
         launch_now(&mut moves);
         moves.step();
         moves.flash_read(LOWER_PROGRAM);
-        cases.push(walk(&SMALL, ground(nvmop), &moves));
+        cases.push(walk(&SMALL, fill(nvmop), &moves));
     }
 }
