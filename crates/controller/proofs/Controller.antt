@@ -6,8 +6,8 @@ use Rattle.common_declines.specs.Possible.{implementedOf, possibleOf}
 use Rattle.controller.specs.Controller.{Controller}
 use Rattle.controller.proofs.DeviceLaws.{power-on-possible}
 use Rattle.controller.specs.Controller.Operation.{step, reset}
-use Rattle.controller.proofs.WriteLaws.{writes-one-quad, one-quad}
-use Rattle.controller.proofs.ProtectedPageLaws.{keeps}
+use Rattle.controller.proofs.WriteLaws.{step-writes, reset-writes, one-quad}
+use Rattle.controller.proofs.KeepLaws.{keeps}
 use Rattle.controller.proofs.RunLaws.{run-sound, declined-same, compared, not-compared, none-valid}
 use Rattle.controller.proofs.ProbeLaws.{read-key}
 use Rattle.controller.proofs.StartUpLaws.{start-up-runs, start-up-accepted, start-up-sound, start-up-cut}
@@ -21,8 +21,8 @@ controller =
       declined-same = declined-same;
       masked = λ g s h r l. all-below (λ r. withinOf r (registerOf (s .device) r)) 11 (and-both (implementedOf (s .device)) _ (h .possible) .0) r l;
       read-key = λ g s r on. read-key g (s .device) r on;
-      one-quad = λ g s sram. one-quad g s _ (writes-one-quad g s (step sram));
-      one-quad-torn = λ g s sram kind mask. one-quad g s _ (writes-one-quad g s (reset sram kind mask));
+      one-quad = λ g s sram. one-quad g s _ (step-writes g s sram);
+      one-quad-torn = λ g s sram kind mask. one-quad g s _ (reset-writes g s sram kind mask);
       keeps = keeps;
       compared = compared;
       not-compared = not-compared;

@@ -32,8 +32,10 @@ use Rattle.register_access.specs.Store.{loadsOf, mayStoreOf, storeDeclineOf, ap
 use Rattle.register_access.proofs.AcceptedLaws.{store-ready, store-at-rest}
 use Rattle.register_fields.specs.Fields.{wantedOf}
 use Rattle.flash.specs.Effect.{stepAtOf, sourceFitsOf, effectOf}
-use Rattle.flash.specs.Step.{endedOf, advanceOf}
-use Rattle.reads.specs.Read.{flashReadOf}
+use Rattle.flash.specs.Step.{endedOf, advanceOf, stepOf}
+use Rattle.words.specs.declared.decline.Decline.{Decline}
+use Rattle.map.specs.Windows.{locateOf}
+use Rattle.reads.specs.Read.{secondAtOf, freeOf, Stepped, stepped, remainingOf, waitedOf, readAnswerOf, wordReadOf, Reading, reading, flashReadOf}
 use Rattle.resets.specs.Reset.{resetConOf, resetDeviceOf, resetDeclineOf, resetAnswerOf, tearOf}
 use Rattle.resets.specs.Reset.{comparisonOf, comparedOf, restartOf, explained, Explained, explainedOf}
 use Rattle.resets.proofs.AcceptedLaws.{reset-ready}
@@ -44,8 +46,9 @@ use Rattle.controller.proofs.StoreEquations.{con-store}
 use Rattle.controller.proofs.StoreLaws.{con-holds}
 use Rattle.controller.proofs.DeviceLaws.{reset-idle}
 use Rattle.controller.proofs.RunLaws.{by-store, transition-possible}
-use Rattle.controller.proofs.WriteLaws.{by-step, by-reset}
-use Rattle.controller.proofs.LoadLaws.{Alike, stateWith, same-common, same-effect, read-with, run-alike, but-loaded}
+use Rattle.controller.proofs.WriteLaws.{by-step, by-advance, by-reset}
+use Rattle.controller.proofs.LoadLaws.{Alike, stateWith, same-common, same-effect, same-read, steps-alike, run-alike, but-loaded}
+use Rattle.controller.proofs.ReadLaws.{by-flash-read}
 use Rattle.controller.proofs.LoadLaws.{six, answers, loaded, no-event, unseen-answers}
 
 -- ---- a reset with other registers 2 to 7
@@ -113,6 +116,42 @@ torn g without loaded h sram kind mask =
       (ap (λ (e : Explained). e .after .decline) same, ap (λ (e : Explained). e .reason) same),
     )
 
+-- ---- a flash read
+-- two readings are the same but for registers 2 to 7
+abbrev SameReading : Reading → Reading → Type 0
+SameReading without loaded =
+    ButLoaded (without .after .state) (loaded .after .state)
+    × ((loaded .after .decline ≡ without .after .decline) × ((loaded .after .event ≡ without .after .event) × (loaded .word ≡ without .word)))
+
+read-with : (g : Geometry) (s : State) (o : Operands) → possibleOf g (withOperands (s .device) o) ≡ possibleOf g (s .device) → (sram : List ℕ) (address : ℕ)
+    → SameReading (flashReadOf g s sram address) (flashReadOf g (stateWith o s) sram address)
+unfolding flashReadOf freeOf
+read-with g s o can sram address =
+    rw (same-read g s o can sram address)
+    (go (acceptedOf (readAnswerOf g s sram address)) (freeOf g (s .device) (secondAtOf (s .device) (locateOf g address))))
+  where
+    h : Alike g s (stateWith o s)
+    h = record { operands = o; same = refl; can = can }
+
+    ready : State → Bool → Stepped
+    ready t free = pick free (stepped t false) (waitedOf g t sram)
+
+    read : State → Bool → Bool → Reading
+    read t a free =
+        pick a (let w = ready t free in reading (after Decline.Accepted (w .state) (w .event)) (wordReadOf g (w .state) address))
+        (reading (after (readAnswerOf g s sram address) t false) 0)
+
+    go : (a free : Bool) → SameReading (read s a free) (read (stateWith o s) a free)
+    go true true = (record { operands = o; same = refl }, (refl, (refl, refl)))
+    go true false =
+        let both = steps-alike g sram (remainingOf g (s .device)) s (stateWith o s) h in
+        (but-loaded g _ _ (both .alike), (refl, (both .event, ap (λ (u : State). wordReadOf g u address) (both .alike .same))))
+    go false free = (record { operands = o; same = refl }, (refl, (refl, refl)))
+
+unseen-read : (g : Geometry) (without loaded : State) → Alike g without loaded → (sram : List ℕ) (address : ℕ)
+    → SameReading (flashReadOf g without sram address) (flashReadOf g loaded sram address)
+unseen-read g without loaded h sram address = rw (h .same) (read-with g without (h .operands) (h .can) sram address)
+
 -- ---- the registers after a reset and after a step
 keeps : (g : Geometry) (s : State) (sram : List ℕ) (kind : ℕ) (mask : List ℕ) → (kind ≡ 0 → ⊥)
     → operandsOf (transitionOf g s (reset sram kind mask) .device) ≡ operandsOf (s .device)
@@ -127,15 +166,6 @@ forgets g s sram mask =
     by-reset g s sram 0 mask (λ a. acceptedOf (a .decline) ≡ true → operandsOf (a .state .device) ≡ operandsOf powerOn)
     (λ on h. refl)
     (λ off h. true-not-false (sym h ∙ off))
-
--- a property of the device that a step leaves
-by-advance : (g : Geometry) (d : Device) (P : Device → Type 0)
-    → P (endedOf d (clearOf (d .nvmcon .0) WR)) → P (endedOf d (clearOf (d .nvmcon .0) (WR + WRERR)))
-    → P (withCon d (d .nvmcon .0) (d .keystep) (d .step + 1)) → (aborts : Bool) → P (advanceOf g d aborts .device)
-unfolding advanceOf
-by-advance g d P aborted last more aborts =
-    pick-both (λ (a : Answer). P (a .device)) aborts aborted
-    (pick-both (λ (a : Answer). P (a .device)) (eqb (d .step + 1) (lengthOf g (opOf d))) last more)
 
 left : (g : Geometry) (s : State) (sram : List ℕ) → operandsOf (transitionOf g s (step sram) .device) ≡ operandsOf (s .device)
 left g s sram =
@@ -238,13 +268,8 @@ reset-launched : (g : Geometry) (d : Device) → possibleOf g d ≡ true → (ki
 reset-launched g d can kind swap =
     reset-empty d kind swap ∙ ap (λ (t : Bool). pick t (operandsOf (resetDeviceOf d kind swap)) noOperands) (sym (reset-idle g d can kind swap))
 
-stays : (g : Geometry) (s : State) (o : Operation) → AsLaunched (s .device) → loadsWhileRunning (s .device) o ≡ false
-    → AsLaunched (transitionOf g s o .device)
-unfolding registerReadOf
-stays g s (store r form value) h quiet = store-stays g (s .device) r form value h quiet
-stays g s (registerRead r) h quiet = pick-both (λ (a : RegisterRead). AsLaunched (a .device)) (acceptedOf (readDeclineOf g (s .device) r)) h h
-stays g s (flashRead address) h quiet = h
-stays g s (step sram) h quiet =
+step-stays : (g : Geometry) (s : State) (sram : List ℕ) → AsLaunched (s .device) → AsLaunched (stepOf g s sram .state .device)
+step-stays g s sram h =
     let d = s .device in
     let con = d .nvmcon .0 in
     by-step g s sram (λ a. AsLaunched (a .state .device))
@@ -252,6 +277,14 @@ stays g s (step sram) h quiet =
     by-advance g d AsLaunched (ended-launched d (clearOf con WR) (clear-bit 15 con WR ∙ and-false (bit 15 con)))
     (ended-launched d (clearOf con (WR + WRERR)) (clear-bit 15 con (WR + WRERR) ∙ and-false (bit 15 con))) h (effectOf g s sram .aborts))
     (λ off. h)
+
+stays : (g : Geometry) (s : State) (o : Operation) → AsLaunched (s .device) → loadsWhileRunning (s .device) o ≡ false
+    → AsLaunched (transitionOf g s o .device)
+unfolding registerReadOf
+stays g s (store r form value) h quiet = store-stays g (s .device) r form value h quiet
+stays g s (registerRead r) h quiet = pick-both (λ (a : RegisterRead). AsLaunched (a .device)) (acceptedOf (readDeclineOf g (s .device) r)) h h
+stays g s (flashRead sram address) h quiet = by-flash-read g sram (λ t. AsLaunched (t .device)) (λ t h. step-stays g t sram h) s address h
+stays g s (step sram) h quiet = step-stays g s sram h
 stays g s (reset sram kind mask) h quiet =
     by-reset g s sram kind mask (λ a. AsLaunched (a .state .device)) (λ on.
     let t = tearOf g s sram mask in
@@ -286,8 +319,7 @@ load-early =
       no-event = no-event;
       unseen = λ g s l h. but-loaded g _ _ (run-alike g s l h);
       unseen-answers = unseen-answers;
-      unseen-read = λ g s l h address. let a = run-alike g s l h in
-          ap (λ (u : State). flashReadOf g u address) (a .same) ∙ read-with g _ (a .operands) (a .can) address;
+      unseen-read = λ g s l h. unseen-read g _ _ (run-alike g s l h);
       torn = λ g s l h. torn g _ _ (run-alike g s l h);
       keeps = keeps;
       forgets = forgets;

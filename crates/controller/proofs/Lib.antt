@@ -5,7 +5,12 @@ pub mod DeviceLaws
 pub mod ProtectionLaws
 pub mod WriteLaws
 pub mod ProtectedPageLaws
+pub mod ReadLaws
+pub mod KeepLaws
 pub mod RunLaws
+pub mod WaitLaws
+pub mod TargetLaws
+pub mod Waits
 pub mod RestLaws
 pub mod StartUpLaws
 pub mod Controller

@@ -37,7 +37,8 @@ use Rattle.flash.specs.Write.{writtenOf}
 use Rattle.flash.specs.Effect.{blockedOf, sourceFitsOf, effectAtOf, effectOf}
 use Rattle.flash.specs.Step.{stepDeclineOf, endedOf, advanced, advanceOf, stepAnswerOf, stepOf}
 use Rattle.flash.proofs.AcceptedLaws.{step-ready}
-use Rattle.reads.specs.Read.{freeOf, flashReadDeclineOf, flashReadOf}
+use Rattle.reads.specs.Read.{flashReadDeclineOf, readAnswerOf, Stepped, stepped, stepsOf}
+use Rattle.reads.proofs.StepsLaws.{onOf}
 use Rattle.controller.specs.Controller.{answerOf, transitionOf, runOf}
 use Rattle.controller.specs.Controller.Operation.{store, step}
 use Rattle.controller.specs.Loads.{Move, movesOf, worksOf, Loads, Given, givenOf, ButLoaded}
@@ -241,9 +242,9 @@ module _ (g : Geometry) (s : State) (o : Operands) (can : possibleOf g (withOper
       go true = refl
       go false = refl
 
-  pub read-with : (address : ℕ) → flashReadOf g (stateWith o s) address ≡ flashReadOf g s address
-  unfolding flashReadOf flashReadDeclineOf freeOf
-  read-with address = rw (same-common (length (s .one) ∷ length (s .two) ∷ []) 0)
+  pub same-read : (sram : List ℕ) (address : ℕ) → readAnswerOf g (stateWith o s) sram address ≡ readAnswerOf g s sram address
+  unfolding flashReadDeclineOf
+  same-read sram address = rw (same-common (length (s .one) ∷ length (s .two) ∷ []) (length sram))
 
 -- ---- two states that differ in registers 2 to 7 alone go on alike
 pub record Alike (g : Geometry) (s t : State) : Type 0 where
@@ -323,3 +324,29 @@ but-loaded g s t h = record { operands = h .operands; same = h .same }
 
 pub unseen-answers : (g : Geometry) (s : State) (l : List Move) → Loads g s l → givenOf g s l ≡ givenOf g s (worksOf l)
 unseen-answers g s l loads = given-alike g s s l loads (alike g s)
+
+-- ---- a flash read of both
+pub record AlikeSteps (g : Geometry) (a c : Stepped) : Type 0 where
+  pub alike : Alike g (a .state) (c .state)
+  pub event : c .event ≡ a .event
+
+-- after a step of both
+on-alike : (g : Geometry) (sram : List ℕ) (n : ℕ) (a c : After) → Alike g (a .state) (c .state) → c .event ≡ a .event
+    → AlikeSteps g (stepsOf g sram n (a .state)) (stepsOf g sram n (c .state)) → AlikeSteps g (onOf g sram n a) (onOf g sram n c)
+on-alike g sram n a c h event rest = rw (ap (λ (u : State). running (u .device)) (h .same)) (go (running (a .state .device)))
+  where
+    go : (on : Bool) → AlikeSteps g (pick on (stepsOf g sram n (a .state)) (stepped (a .state) (a .event)))
+        (pick on (stepsOf g sram n (c .state)) (stepped (c .state) (c .event)))
+    go true = rest
+    go false = record { alike = h; event = event }
+
+step-event : (g : Geometry) (s t : State) (sram : List ℕ) → Alike g s t → stepOf g t sram .event ≡ stepOf g s sram .event
+step-event g s t sram h =
+    ap (λ (u : State). stepOf g u sram .event) (h .same) ∙ ap (λ (a : After). a .event) (step-with g s (h .operands) (h .can) sram)
+
+pub steps-alike : (g : Geometry) (sram : List ℕ) (n : ℕ) (s t : State) → Alike g s t → AlikeSteps g (stepsOf g sram n s) (stepsOf g sram n t)
+unfolding stepsOf
+steps-alike g sram zero s t h = record { alike = h; event = refl }
+steps-alike g sram (suc n) s t h =
+    on-alike g sram n (stepOf g s sram) (stepOf g t sram) (step-alike g s t sram h) (step-event g s t sram h)
+    (steps-alike g sram n _ _ (step-alike g s t sram h))

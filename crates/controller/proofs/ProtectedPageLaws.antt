@@ -28,8 +28,8 @@ use Rattle.flash.proofs.EffectLaws.{runs-room}
 use Rattle.reads.specs.Read.{secondAtOf}
 use Rattle.controller.specs.Protection.{isProgramPage, ofItsKind, isUpperPage, protectedPageOf}
 use Rattle.device.specs.State.{State, bankOf}
-use Rattle.controller.specs.Controller.{Operation, transitionOf, stepSecondOf, stepQuadOf, Keeps}
-use Rattle.controller.proofs.WriteLaws.{Writes, writes-one-quad, one-quad, unwritten, bank-length}
+use Rattle.controller.specs.Controller.{stepSecondOf, stepQuadOf, Keeps}
+use Rattle.controller.proofs.WriteLaws.{Writes, one-quad, unwritten, bank-length}
 
 -- the words of quad offset / 16 lie in the page of the offset
 quad-page : (g : Geometry) (v offset : ℕ) → 4 * (offset / 16) ≤ v → v < 4 * (offset / 16) + 4 → v / pageWordsOf g ≡ offset / pageBytesOf g
@@ -104,21 +104,18 @@ by-words g n one two long same = ext-getD 0 (pageAt g one n) (pageAt g two n) (s
         ∙ sym (getD-take (pageWordsOf g) (drop (n * pageWordsOf g) two) k 0 inside)
 
 -- ---- a protected page stays
-module _ (g : Geometry) (s : State) (o : Operation) where
-  w : Writes g s (transitionOf g s o)
-  w = writes-one-quad g s o
-
+module _ (g : Geometry) (s t : State) (w : Writes g s t) where
   module _ (n : ℕ) where
     abbrev Kept : Bool → Type 0
-    Kept second = pageAt g (bankOf (transitionOf g s o) second) n ≡ pageAt g (bankOf s second) n
+    Kept second = pageAt g (bankOf t second) n ≡ pageAt g (bankOf s second) n
 
     -- in the bank of the step, whose quad is in no protected page
     here : w .write .writes ≡ true → protectedPageOf g (s .device) (stepSecondOf g s) n ≡ true → Kept (stepSecondOf g s)
     here on p =
-        by-words g n _ _ (bank-length g s (transitionOf g s o) w (stepSecondOf g s)) (λ k h. low k h (decLe (4 * stepQuadOf g s) (n * pageWordsOf g + k)))
+        by-words g n _ _ (bank-length g s t w (stepSecondOf g s)) (λ k h. low k h (decLe (4 * stepQuadOf g s) (n * pageWordsOf g + k)))
       where
         Same : ℕ → Type 0
-        Same v = wordAt (bankOf (transitionOf g s o) (stepSecondOf g s)) v ≡ wordAt (bankOf s (stepSecondOf g s)) v
+        Same v = wordAt (bankOf t (stepSecondOf g s)) v ≡ wordAt (bankOf s (stepSecondOf g s)) v
 
         apart : (v : ℕ) → v / pageWordsOf g ≡ n → 4 * stepQuadOf g s ≤ v → v < 4 * stepQuadOf g s + 4 → ⊥
         apart v e lo hi =
@@ -131,12 +128,12 @@ module _ (g : Geometry) (s : State) (o : Operation) where
 
         high : (k : ℕ) → k < pageWordsOf g → 4 * stepQuadOf g s ≤ n * pageWordsOf g + k → Dec (4 * stepQuadOf g s + 4 ≤ n * pageWordsOf g + k)
             → Same (n * pageWordsOf g + k)
-        high k h lo (yes m) = one-quad g s (transitionOf g s o) w .outside (n * pageWordsOf g + k) (inr m)
+        high k h lo (yes m) = one-quad g s t w .outside (n * pageWordsOf g + k) (inr m)
         high k h lo (no m) = absurd (apart (n * pageWordsOf g + k) (digits-div n h) lo (omega arith))
 
         low : (k : ℕ) → k < pageWordsOf g → Dec (4 * stepQuadOf g s ≤ n * pageWordsOf g + k) → Same (n * pageWordsOf g + k)
         low k h (yes m) = high k h m (decLe (4 * stepQuadOf g s + 4) (n * pageWordsOf g + k))
-        low k h (no m) = one-quad g s (transitionOf g s o) w .outside (n * pageWordsOf g + k) (inl (omega arith))
+        low k h (no m) = one-quad g s t w .outside (n * pageWordsOf g + k) (inl (omega arith))
 
     -- the step stands in this bank, or in the other
     side : (a b : Bool) → (protectedPageOf g (s .device) b n ≡ true → Kept b) → Kept (not b) → protectedPageOf g (s .device) a n ≡ true → Kept a
@@ -150,8 +147,8 @@ module _ (g : Geometry) (s : State) (o : Operation) where
       where
         written : (on : Bool) → w .write .writes ≡ on → Kept second
         written true e =
-            side second (stepSecondOf g s) (here e) (ap (λ (bank : List ℕ). pageAt g bank n) (one-quad g s (transitionOf g s o) w .other-bank)) p
-        written false e = ap (λ (bank : List ℕ). pageAt g bank n) (unwritten g s (transitionOf g s o) w e second)
+            side second (stepSecondOf g s) (here e) (ap (λ (bank : List ℕ). pageAt g bank n) (one-quad g s t w .other-bank)) p
+        written false e = ap (λ (bank : List ℕ). pageAt g bank n) (unwritten g s t w e second)
 
-  pub keeps : Keeps g s (transitionOf g s o)
-  keeps = record { long = bank-length g s (transitionOf g s o) w; page = λ second n p. kept n second p }
+  pub writes-keep : Keeps g s t
+  writes-keep = record { long = bank-length g s t w; page = λ second n p. kept n second p }

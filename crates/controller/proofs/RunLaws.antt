@@ -29,7 +29,11 @@ use Rattle.controller.specs.Controller.{Operation, answerOf, transitionO
 use Rattle.controller.specs.Controller.Operation.{store, registerRead, flashRead, step, reset}
 use Rattle.controller.proofs.StoreLaws.{store-possible, read-leaves-possible}
 use Rattle.controller.proofs.DeviceLaws.{advance-possible, reset-possible, reset-swap}
-use Rattle.controller.proofs.WriteLaws.{by-step, by-reason, by-reset, writes-one-quad, bank-length}
+use Rattle.controller.proofs.WriteLaws.{by-step, by-reason, by-reset}
+use Rattle.controller.proofs.ReadLaws.{by-flash-read}
+use Rattle.controller.proofs.KeepLaws.{keeps}
+use Rattle.flash.specs.Step.{stepOf}
+use Rattle.reads.specs.Read.{readAnswerOf, Reading, flashReadOf}
 
 -- ---- what an accepted operation leaves, and what a declined one
 pub by-store : (g : Geometry) (d : Device) (r form value : ℕ) (P : Answer → Type 0)
@@ -65,28 +69,28 @@ unfolding registerReadOf
 read-answers g d r on = rw on on
 
 -- ---- the state stays sound
+step-possible : (g : Geometry) (s : State) (sram : List ℕ) → possibleOf g (s .device) ≡ true → possibleOf g (stepOf g s sram .state .device) ≡ true
+step-possible g s sram h =
+    by-step g s sram (λ a. possibleOf g (a .state .device) ≡ true)
+    (λ on. advance-possible g (s .device) h (step-ready g (s .device) _ _ _ on .2) _)
+    (λ off. h)
+
 pub transition-possible : (g : Geometry) (s : State) (o : Operation) → BringsWord o → possibleOf g (s .device) ≡ true
     → possibleOf g (transitionOf g s o .device) ≡ true
 transition-possible g s (store r form value) w h =
     by-store g (s .device) r form value (λ a. possibleOf g (a .device) ≡ true) (store-possible g (s .device) r form value w) (λ off. h)
 transition-possible g s (registerRead r) w h =
     by-read g (s .device) r (λ a. possibleOf g (a .device) ≡ true) (read-leaves-possible g (s .device) r) (λ off. h)
-transition-possible g s (flashRead address) w h = h
-transition-possible g s (step sram) w h =
-    by-step g s sram (λ a. possibleOf g (a .state .device) ≡ true)
-    (λ on. advance-possible g (s .device) h (step-ready g (s .device) _ _ _ on .2) _)
-    (λ off. h)
+transition-possible g s (flashRead sram address) w h =
+    by-flash-read g sram (λ t. possibleOf g (t .device) ≡ true) (λ t h. step-possible g t sram h) s address h
+transition-possible g s (step sram) w h = step-possible g s sram h
 transition-possible g s (reset sram kind mask) w h =
     by-reset g s sram kind mask (λ a. possibleOf g (a .state .device) ≡ true) (λ on. reset-possible g (s .device) h kind _) (λ off. h)
 
 transition-sound : (g : Geometry) (s : State) (o : Operation) → BringsWord o → Sound g s → Sound g (transitionOf g s o)
 transition-sound g s o w h =
-    let write = writes-one-quad g s o in
-    record {
-      possible = transition-possible g s o w (h .possible);
-      first = bank-length g s (transitionOf g s o) write false ∙ h .first;
-      other = bank-length g s (transitionOf g s o) write true ∙ h .other;
-    }
+    let long = keeps g s o .long in
+    record { possible = transition-possible g s o w (h .possible); first = long false ∙ h .first; other = long true ∙ h .other }
 
 pub run-sound : (g : Geometry) (s : State) → Sound g s → (l : List Operation) → BringWords l → Sound g (runOf g s l)
 run-sound g s h [] w = h
@@ -103,6 +107,13 @@ all-accepted-append g s [] other a b = b
 all-accepted-append g s (o ∷ first) other a b = (a .0, all-accepted-append g (transitionOf g s o) first other (a .1) b)
 
 -- ---- a declined operation changes nothing
+read-declined : (g : Geometry) (s : State) (sram : List ℕ) (address : ℕ) → acceptedOf (flashReadOf g s sram address .after .decline) ≡ false
+    → flashReadOf g s sram address .after .state ≡ s
+unfolding flashReadOf
+read-declined g s sram address =
+    pick-both (λ (r : Reading). acceptedOf (r .after .decline) ≡ false → r .after .state ≡ s) (acceptedOf (readAnswerOf g s sram address))
+    (λ h. true-not-false h) (λ h. refl)
+
 pub declined-same : (g : Geometry) (s : State) (o : Operation) → acceptedOf (answerOf g s o) ≡ false → transitionOf g s o ≡ s
 declined-same g s (store r form value) h =
     by-store g (s .device) r form value
@@ -116,7 +127,7 @@ declined-same g s (registerRead r) h =
     (λ on h. true-not-false (sym (read-answers g (s .device) r on) ∙ h))
     (λ off h. refl)
     h
-declined-same g s (flashRead address) h = refl
+declined-same g s (flashRead sram address) h = read-declined g s sram address h
 declined-same g s (step sram) h =
     by-step g s sram (λ a. acceptedOf (a .decline) ≡ false → a .state ≡ s) (λ on h. true-not-false h) (λ off h. refl) h
 declined-same g s (reset sram kind mask) h =

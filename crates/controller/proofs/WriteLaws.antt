@@ -1,12 +1,13 @@
--- What each operation does to the banks: only a step and a tear write, at most the quad of the next step in the bank in which it
+-- What a step and a tear do to the banks: they write, at most the quad of the next step in the bank in which it
 -- stands, while an operation runs, and never in a protected page. So the other bank stays, and so do the words outside the quad.
 -- Assumes nothing.
 use mathlib.Core.Path.{_≡_, refl, sym, ap, _∙_}
 use mathlib.Core.Bool.{Bool, true, false, not}
 use mathlib.Core.List.{List, []}
-use Prim.Native.Nat.{ℕ}
+use Prim.Native.Nat.{ℕ, _+_}
+use lib.Dec.{eqb}
 use lib.ListN.{length}
-use Rattle.words.specs.Word.{pick}
+use Rattle.words.specs.Word.{pick, clearOf}
 use Rattle.words.specs.Quad.{wordAt}
 use Rattle.words.proofs.PickLaws.{pick-both, and-both}
 use Rattle.words.proofs.BitLaws.{true-not-false}
@@ -14,12 +15,17 @@ use Rattle.words.proofs.QuadLaws.{put-length, put-other-word}
 use Rattle.geometry.specs.declared.banks.Geometry.{Geometry}
 use Rattle.words.specs.Decline.{acceptedOf}
 use Rattle.map.specs.Windows.{pageOf}
-use Rattle.device.specs.Record.{running}
+use Rattle.device.specs.Record.{running, opOf}
 use Rattle.protection.specs.Protection.{protectedOf}
 use Rattle.flash.specs.Effect.{Runs, stepLocationOf, effectOf}
 use Rattle.flash.specs.declared.write.Write.{Write}
 use Rattle.flash.specs.Write.{oneAfter, twoAfter}
-use Rattle.flash.specs.Step.{stepEffectOf, steppedOf, stepAnswerOf, stepOf}
+use Rattle.nvmop.specs.Operation.{lengthOf}
+use Rattle.device.specs.declared.record.Device.{Device}
+use Rattle.device.specs.declared.answer.Answer.{Answer}
+use Rattle.device.specs.Builders.{withCon}
+use Rattle.device.specs.Registers.{WR, WRERR}
+use Rattle.flash.specs.Step.{endedOf, advanceOf, stepEffectOf, steppedOf, stepAnswerOf, stepOf}
 use Rattle.flash.proofs.EffectLaws.{effect-second, effect-quad}
 use Rattle.flash.proofs.AcceptedLaws.{runs, step-ready}
 use Rattle.sequence.specs.declared.comparison.Reason.{Reason}
@@ -42,6 +48,15 @@ by-step g s sram P yes′ no′ = go (acceptedOf (stepAnswerOf g s sram)) refl
     go : (t : Bool) → acceptedOf (stepAnswerOf g s sram) ≡ t → P (pick t (steppedOf s (stepEffectOf g s sram)) (after (stepAnswerOf g s sram) s false))
     go true e = yes′ e
     go false e = no′ e
+
+-- a property of the device that a step leaves
+pub by-advance : (g : Geometry) (d : Device) (P : Device → Type 0)
+    → P (endedOf d (clearOf (d .nvmcon .0) WR)) → P (endedOf d (clearOf (d .nvmcon .0) (WR + WRERR)))
+    → P (withCon d (d .nvmcon .0) (d .keystep) (d .step + 1)) → (aborts : Bool) → P (advanceOf g d aborts .device)
+unfolding advanceOf
+by-advance g d P aborted last more aborts =
+    pick-both (λ (a : Answer). P (a .device)) aborts aborted
+    (pick-both (λ (a : Answer). P (a .device)) (eqb (d .step + 1) (lengthOf g (opOf d))) last more)
 
 -- what holds of what a reset that is carried out leaves, and of what a declined one does
 pub by-reason : (g : Geometry) (s : State) (sram : List ℕ) (kind : ℕ) (mask : List ℕ) (P : Explained → Type 0)
@@ -74,7 +89,7 @@ pub record Writes (g : Geometry) (s t : State) : Type 0 where
   pub allowed : write .writes ≡ true
       → let l = stepLocationOf g (s .device) in Runs g (s .device) × (protectedOf g (s .device) (l .program) (l .upper) (pageOf g l) ≡ false)
 
-no-write : (g : Geometry) (s t : State) → t .one ≡ s .one → t .two ≡ s .two → Writes g s t
+pub no-write : (g : Geometry) (s t : State) → t .one ≡ s .one → t .two ≡ s .two → Writes g s t
 no-write g s t one two =
     record {
       write = record { writes = false; second = stepSecondOf g s; quad = stepQuadOf g s; words = [] };
@@ -85,11 +100,8 @@ no-write g s t one two =
       allowed = λ e. true-not-false (sym e);
     }
 
-pub writes-one-quad : (g : Geometry) (s : State) (o : Operation) → Writes g s (transitionOf g s o)
-writes-one-quad g s (store r form value) = no-write g s _ refl refl
-writes-one-quad g s (registerRead r) = no-write g s _ refl refl
-writes-one-quad g s (flashRead address) = no-write g s _ refl refl
-writes-one-quad g s (step sram) =
+pub step-writes : (g : Geometry) (s : State) (sram : List ℕ) → Writes g s (transitionOf g s (step sram))
+step-writes g s sram =
     by-step g s sram (λ a. Writes g s (a .state))
     (λ on.
     let run = step-ready g (s .device) _ _ _ on .1 in
@@ -102,7 +114,9 @@ writes-one-quad g s (step sram) =
       allowed = λ w. (run, unprotected g s sram run w);
     })
     (λ off. no-write g s _ refl refl)
-writes-one-quad g s (reset sram kind mask) =
+
+pub reset-writes : (g : Geometry) (s : State) (sram : List ℕ) (kind : ℕ) (mask : List ℕ) → Writes g s (transitionOf g s (reset sram kind mask))
+reset-writes g s sram kind mask =
     by-reset g s sram kind mask (λ a. Writes g s (a .state))
     (λ on.
     let ready = reset-ready g (s .device) _ _ _ kind on in

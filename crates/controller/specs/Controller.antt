@@ -30,12 +30,12 @@ use Rattle.resets.specs.Reset.{resetOf, resetReasonOf}
 use Rattle.reads.specs.Read.{secondAtOf, flashReadOf}
 use Rattle.controller.specs.Protection.{protectedPageOf}
 
--- a store of a form and a value to a register; a register read; a flash read; a step and a reset with their SRAM, a reset also with its
--- kind and its mask
+-- a store of a form and a value to a register; a register read; a flash read of an address, a step and a reset with their SRAM, a reset also
+-- with its kind and its mask
 pub data Operation : Type 0 where
   store : ℕ → ℕ → ℕ → Operation
   registerRead : ℕ → Operation
-  flashRead : ℕ → Operation
+  flashRead : List ℕ → ℕ → Operation
   step : List ℕ → Operation
   reset : List ℕ → ℕ → List ℕ → Operation
 
@@ -43,7 +43,7 @@ pub data Operation : Type 0 where
 abbrev pub answerOf : Geometry → State → Operation → Decline
 answerOf g s (store r form value) = storeOf g (s .device) r form value .decline
 answerOf g s (registerRead r) = registerReadOf g (s .device) r .decline
-answerOf g s (flashRead address) = flashReadOf g s address .decline
+answerOf g s (flashRead sram address) = flashReadOf g s sram address .after .decline
 answerOf g s (step sram) = stepOf g s sram .decline
 answerOf g s (reset sram kind mask) = resetOf g s sram kind mask .decline
 
@@ -51,7 +51,7 @@ answerOf g s (reset sram kind mask) = resetOf g s sram kind mask .decline
 abbrev pub transitionOf : Geometry → State → Operation → State
 transitionOf g s (store r form value) = state (storeOf g (s .device) r form value .device) (s .one) (s .two)
 transitionOf g s (registerRead r) = state (registerReadOf g (s .device) r .device) (s .one) (s .two)
-transitionOf g s (flashRead address) = s
+transitionOf g s (flashRead sram address) = flashReadOf g s sram address .after .state
 transitionOf g s (step sram) = stepOf g s sram .state
 transitionOf g s (reset sram kind mask) = resetOf g s sram kind mask .state
 
@@ -74,7 +74,7 @@ storeOperations (a ∷ rest) = store (a .register) (a .form) (a .value) ∷ stor
 abbrev pub BringsWord : Operation → Type 0
 BringsWord (store r form value) = value < 2 ^ 32
 BringsWord (registerRead r) = Unit {0}
-BringsWord (flashRead address) = Unit {0}
+BringsWord (flashRead sram address) = Unit {0}
 BringsWord (step sram) = Unit {0}
 BringsWord (reset sram kind mask) = Unit {0}
 

@@ -2,3 +2,4 @@ pub mod Protection
 pub mod Controller
 pub mod Probes
 pub mod Loads
+pub mod Waits

@@ -75,7 +75,7 @@ AsLaunched d = d .launched ≡ pick (running d) (operandsOf d) noOperands
 abbrev pub loadsWhileRunning : Device → Operation → Bool
 loadsWhileRunning d (store r form value) = running d && loadsOf r
 loadsWhileRunning d (registerRead r) = false
-loadsWhileRunning d (flashRead address) = false
+loadsWhileRunning d (flashRead sram address) = false
 loadsWhileRunning d (step sram) = false
 loadsWhileRunning d (reset sram kind mask) = false
 
@@ -103,8 +103,11 @@ pub record LoadEarly : Type 1 where
   -- leave without but for these registers, and get the same answers and events, aborts too; so does a flash read after them
   pub unseen : (g : Geometry) (s : State) (l : List Move) → Loads g s l → ButLoaded (runOf g s (movesOf (worksOf l))) (runOf g s (movesOf l))
   pub unseen-answers : (g : Geometry) (s : State) (l : List Move) → Loads g s l → givenOf g s l ≡ givenOf g s (worksOf l)
-  pub unseen-read : (g : Geometry) (s : State) (l : List Move) → Loads g s l → (address : ℕ)
-      → flashReadOf g (runOf g s (movesOf l)) address ≡ flashReadOf g (runOf g s (movesOf (worksOf l))) address
+  pub unseen-read : (g : Geometry) (s : State) (l : List Move) → Loads g s l → (sram : List ℕ) (address : ℕ)
+      → let loaded = flashReadOf g (runOf g s (movesOf l)) sram address in
+      let without = flashReadOf g (runOf g s (movesOf (worksOf l))) sram address in
+      ButLoaded (without .after .state) (loaded .after .state)
+      × ((loaded .after .decline ≡ without .after .decline) × ((loaded .after .event ≡ without .after .event) × (loaded .word ≡ without .word)))
   -- "Any reset tears by the launched ones"
   pub torn : (g : Geometry) (s : State) (l : List Move) → Loads g s l → (sram : List ℕ) (kind : ℕ) (mask : List ℕ)
       → let without = runOf g s (movesOf (worksOf l)) in

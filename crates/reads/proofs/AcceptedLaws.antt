@@ -15,14 +15,13 @@ use Rattle.common_declines.specs.CommonDecline.{commonDeclineOf}
 use Rattle.common_declines.proofs.CommonDeclineLaws.{Ready, ready}
 use Rattle.reads.specs.Read.{readableOf, flashReadDeclineOf}
 
--- a flash read lends no SRAM
-pub read-ready : (g : Geometry) (d : Device) (one two address : ℕ) → acceptedOf (flashReadDeclineOf g d one two address) ≡ true
-    → Ready g d (one ∷ two ∷ []) 0 × (locateOf g address .inside ≡ true)
+pub read-ready : (g : Geometry) (d : Device) (one two sram address : ℕ) → acceptedOf (flashReadDeclineOf g d one two sram address) ≡ true
+    → Ready g d (one ∷ two ∷ []) sram × (locateOf g address .inside ≡ true)
 unfolding flashReadDeclineOf
-read-ready g d one two address h =
-    let s0 = neither (commonDeclineOf g d (one ∷ two ∷ []) 0) _ h in
+read-ready g d one two sram address h =
+    let s0 = neither (commonDeclineOf g d (one ∷ two ∷ []) sram) _ h in
     let s1 = held (readableOf g address) _ Decline.Address refl (s0 .1) in
-    (ready g d (one ∷ two ∷ []) 0 (s0 .0), inside (locateOf g address .inside) (s1 .0))
+    (ready g d (one ∷ two ∷ []) sram (s0 .0), inside (locateOf g address .inside) (s1 .0))
   where
     inside : (t : Bool) → pick t (eqb (address % 4) 0) false ≡ true → t ≡ true
     inside true e = refl

@@ -4,28 +4,39 @@ ghost use mathlib.Core.Bool.{true};
 ghost use lib.ListN.{length};
 ghost use Rattle.geometry.specs.Banks.{InRange, bankWordsOf};
 ghost use Rattle.map.specs.Windows.{locateOf};
-ghost use Rattle.device.specs.State.{lent};
+ghost use Rattle.words.specs.declared.decline.Decline.{Decline};
+ghost use Rattle.device.specs.State.{lent, after};
 ghost use Rattle.common_declines.specs.Possible.{possibleOf};
-ghost use Rattle.reads.specs.Read.{secondAtOf, freeOf, readableOf, flashReadDeclineOf, wordReadOf, flashReadOf};
+ghost use Rattle.reads.specs.Read.{secondAtOf, freeOf, readableOf, flashReadDeclineOf, stepped, stepsOf, wordReadOf, reading, flashReadOf};
 use common_declines::common_decline::common_decline;
 use device::numbers::BOTH_ERASE;
 use device::record::Device;
 use device::registers::Nvmcon;
 use flash::effect::step_location;
+use flash::step::step;
 use geometry::banks::Geometry;
 use geometry::lent::Lent;
 use map::Location;
 use map::in_second;
 use map::locate;
 use map::word_index;
+use nvmop::length;
 use nvmop::op;
 use words::decline::Decline;
 use words::word::has;
 
-// The answer to a flash read. Where it is declined the word is 0.
+// The answer to a flash read. Where it is declined the word is 0, and the device and the banks are as before.
 pub struct FlashRead {
     pub decline: Decline,
     pub word: u32,
+    pub event: bool,
+    pub device: Device,
+}
+
+// What the steps of a read that waits leave of the device, and whether the last of them gave an event.
+struct Waited {
+    device: Device,
+    event: bool,
 }
 
 // Whether bank 2 stands at a place.
@@ -63,20 +74,55 @@ fn is_readable(g: Geometry, address: u32) -> bool
     address % 4 == 0
 }
 
-fn flash_read_decline(g: Geometry, d: Device, one: usize, two: usize, address: u32) -> Decline
-    ensures { λ r. ⌜ r ≡ flashReadDeclineOf g d one two address ⌝ }
+fn flash_read_decline(
+    g: Geometry,
+    d: Device,
+    one: usize,
+    two: usize,
+    sram: usize,
+    address: u32,
+) -> Decline
+    ensures { λ r. ⌜ r ≡ flashReadDeclineOf g d one two sram address ⌝ }
 {
-    let decline = common_decline(g, d, Lent::Banks(one, two), 0);
+    let decline = common_decline(g, d, Lent::Banks(one, two), sram);
     if !decline.is_accepted() {
         return decline;
     }
     if !is_readable(g, address) {
         return Decline::Address;
     }
-    if !is_free(g, d, second_at(d, locate(g, address))) {
-        return Decline::Busy;
-    }
     Decline::Accepted
+}
+
+// Steps with an SRAM while WR is set, at most `count` of them.
+fn steps(
+    g: Geometry,
+    d: Device,
+    one: &mut [u32],
+    two: &mut [u32],
+    sram: &[u32],
+    count: u32,
+) -> Waited
+    ensures { λ r. ⌜ stepped (lent (r .device) (one .exit) (two .exit)) (r .event)
+        ≡ stepsOf g (now (sram .entry)) count (lent d (one .entry) (two .entry)) ⌝ }
+{
+    let mut device = d;
+    let mut left = count;
+    while 0 < left {
+        let a = step(g, device, one, two, sram);
+        device = a.device;
+        if !has(device.nvmcon.0, Nvmcon::WR) {
+            return Waited {
+                device,
+                event: a.event,
+            };
+        }
+        left -= 1;
+    }
+    Waited {
+        device,
+        event: false,
+    }
 }
 
 // The word at an address of the four windows.
@@ -94,16 +140,56 @@ fn word_read(g: Geometry, d: Device, one: &[u32], two: &[u32], address: u32) -> 
     one[i]
 }
 
-// A flash read: it changes nothing.
-pub fn flash_read(g: Geometry, d: Device, one: &[u32], two: &[u32], address: u32) -> FlashRead
-    ensures { λ r. ⌜ r ≡ flashReadOf g (lent d (one .entry) (two .entry)) address ⌝ }
+// What a read of the banks as they are gives.
+fn given(g: Geometry, waited: Waited, one: &[u32], two: &[u32], address: u32) -> FlashRead
+    requires { ⌜ InRange g ⌝ }
+    requires { ⌜ (length (now one) ≡ bankWordsOf g) × (length (now two) ≡ bankWordsOf g) ⌝ }
+    requires { ⌜ locateOf g address .inside ≡ true ⌝ }
+    ensures { λ r. ⌜ r ≡ record {
+      decline = Decline.Accepted;
+      word = wordReadOf g (lent (waited .device) (one .entry) (two .entry)) address;
+      event = waited .event;
+      device = waited .device;
+    } ⌝ }
 {
-    let decline = flash_read_decline(g, d, one.len(), two.len(), address);
-    if !decline.is_accepted() {
-        return FlashRead { decline, word: 0 };
-    }
+    let device = waited.device;
     FlashRead {
-        decline,
-        word: word_read(g, d, one, two, address),
+        decline: Decline::Accepted,
+        word: word_read(g, device, one, two, address),
+        event: waited.event,
+        device,
     }
+}
+
+// A flash read: of a bank that the running operation works on it first carries out the steps that remain.
+pub fn flash_read(
+    g: Geometry,
+    d: Device,
+    one: &mut [u32],
+    two: &mut [u32],
+    sram: &[u32],
+    address: u32,
+) -> FlashRead
+    ensures { λ r. ⌜ reading (after (r .decline) (lent (r .device) (one .exit) (two .exit)) (r .event)) (r .word)
+        ≡ flashReadOf g (lent d (one .entry) (two .entry)) (now (sram .entry)) address ⌝ }
+{
+    let decline = flash_read_decline(g, d, one.len(), two.len(), sram.len(), address);
+    if !decline.is_accepted() {
+        return FlashRead {
+            decline,
+            word: 0,
+            event: false,
+            device: d,
+        };
+    }
+    if is_free(g, d, second_at(d, locate(g, address))) {
+        let now = Waited {
+            device: d,
+            event: false,
+        };
+        return given(g, now, one, two, address);
+    }
+    let count = length(g, op(d)) - d.step;
+    let waited = steps(g, d, one, two, sram, count);
+    given(g, waited, one, two, address)
 }

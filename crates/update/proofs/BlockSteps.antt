@@ -10,12 +10,13 @@ use native.Mathlib.Omega.{arith}
 use lib.Arith.{digits-lt}
 use lib.Dec.{eqb}
 use lib.ListN.{length}
-use Rattle.words.specs.Word.{pick, allOnes}
+use Rattle.words.specs.Word.{pick, hasOf, allOnes}
 use Rattle.words.specs.Quad.{wordAt, quadAt, putQuad, blankQuad}
 use Rattle.geometry.specs.Banks.{InRange, pageQuadsOf, programBytesOf, bankWordsOf}
 use Rattle.geometry.proofs.SizeLaws.{in-range}
 use Rattle.sequence.specs.Sequence.{sequenceQuadOf, sequenceIndexOf}
 use Rattle.device.specs.declared.record.Device.{Device}
+use Rattle.device.specs.Registers.{UBWPULOCK}
 use Rattle.device.specs.Builders.{withCon, withLaunched}
 use Rattle.device.specs.Record.{noOperands}
 use Rattle.protection.specs.Protection.{pwpOf}
@@ -118,19 +119,20 @@ module _ (u : Fixed) where
 
   -- ---- the end of a block with steps
   -- what its operation loads protects nothing of the upper side
-  loaded-free : (k : Block) (d : Device) → DeviceIn u k d → 0 < stepsIn u k
-      → UpperFree (loadedIn u k d) × (pwpOf (loadedIn u k d) < programBytesOf g) × (length (loadedIn u k d .nvmdata) ≡ 4)
+  pub loaded-free : (k : Block) (d : Device) → DeviceIn u k d → 0 < stepsIn u k
+      → UpperFree (loadedIn u k d) × (hasOf (loadedIn u k d .nvmbwp .0) UBWPULOCK ≡ true) × (pwpOf (loadedIn u k d) < programBytesOf g)
+      × (length (loadedIn u k d .nvmdata) ≡ 4)
   loaded-free prologue d at l = absurd (omega arith)
-  loaded-free (page i) d at l = (at .free, at .reach, at .quad)
-  loaded-free (quad i) d at l = (at .free, at .reach, ap length (new-four g image (oldWord u) (programmedQuadOf g i)))
+  loaded-free (page i) d at l = (at .free, at .lock, at .reach, at .quad)
+  loaded-free (quad i) d at l = (at .free, at .lock, at .reach, ap length (new-four g image (oldWord u) (programmedQuadOf g i)))
 
   pub block-leads : (k : Block) (d e : Device) → DeviceIn u k d → 0 < stepsIn u k → AtRest g e → e ≡ doneIn u k d
       → Between g b (storeOf g e 0 1 0x4000 .device)
   block-leads k d e at l rest same =
-      let (free, reach, four) = loaded-free k d at l in
+      let (free, lock, reach, four) = loaded-free k d at l in
       let codes = block-codes k in
       let ended : storeOf g e 0 1 0x4000 .device ≡ withCon (withLaunched (loadedIn u k d) noOperands) (restCon b (opIn u k)) 0 0 =
       ap (λ (s : Answer). s .device) (clear-wren g e rest) ∙ rw (same, codes .rests) in
       ended-between g b (opIn u k) codes (storeOf g e 0 1 0x4000 .device) (withLaunched (loadedIn u k d) noOperands)
       (no-launch-rests g e rest (access 0 1 0x4000) quiet-clear) ended
-      free reach four
+      free lock reach four

@@ -63,7 +63,7 @@ module _ (u : Fixed) where
   blank-clash : (new : List ℕ) → quadAt new (sequenceQuadOf g) ≡ blankQuad → clashOf (wordAt new (sequenceIndexOf g)) ≡ true
   blank-clash new blank = rw (ap (λ (q : List ℕ). wordAt q 0) blank) erased-clash
 
-  whole-or-losing : (k : Block) → Has u k → (n : ℕ) (new : List ℕ) → length new ≡ bankWordsOf g → n < suc (stepsIn u k) → BankIn u k n new → Outcome new
+  pub whole-or-losing : (k : Block) → Has u k → (n : ℕ) (new : List ℕ) → length new ≡ bankWordsOf g → n < suc (stepsIn u k) → BankIn u k n new → Outcome new
   whole-or-losing prologue has n new long l losing = inl losing
   whole-or-losing (page i) has n new long l (losing, erased) = inl losing
   whole-or-losing (quad i) has n new long l (words, programmed) = go (eq-or-lt-of-le below)

@@ -1,7 +1,7 @@
 -- What the stores of an update leave of a device at rest: the prologue clears the errors and frees the upper alias, and the stores of a page
 -- or a quad launch its operation.
 -- Assumes nothing.
-use mathlib.Core.Path.{_≡_, refl, sym, _∙_}
+use mathlib.Core.Path.{_≡_, refl, sym, ap, _∙_}
 use mathlib.Core.Bool.{Bool, true, false, not, _&&_, _||_, and-false}
 use mathlib.Core.List.{List, [], _∷_}
 use Prim.Native.Nat.{ℕ, _+_, _*_, _%_, _^_, _≤_, _<_}
@@ -133,13 +133,14 @@ pub record Between (g : Geometry) (b : Bool) (d : Device) : Type 0 where
   pub boot : bfswap d ≡ b
   pub program : pfswap d ≡ b
   pub free : UpperFree d
+  pub lock : hasOf (d .nvmbwp .0) UBWPULOCK ≡ true
   pub reach : pwpOf d < programBytesOf g
   pub quad : length (d .nvmdata) ≡ 4
 
 -- after the end of a block the next begins: each field is a hypothesis or a field of the codes
 pub ended-between : (g : Geometry) (b : Bool) (op : ℕ) → Codes b op → (d e : Device) → AtRest g d → d ≡ withCon e (restCon b op) 0 0 → UpperFree e
-    → pwpOf e < programBytesOf g → length (e .nvmdata) ≡ 4 → Between g b d
-ended-between g b op codes d e rest same free reach quad = let r = rw same at rest in rw same (search)
+    → hasOf (e .nvmbwp .0) UBWPULOCK ≡ true → pwpOf e < programBytesOf g → length (e .nvmdata) ≡ 4 → Between g b d
+ended-between g b op codes d e rest same free lock reach quad = let r = rw same at rest in rw same (search)
 
 -- four stores fill NVMDATA
 filled : (l : List ℕ) (a b c d : ℕ) → length l ≡ 4 → set (set (set (set l 0 a) 1 b) 2 c) 3 d ≡ a ∷ b ∷ c ∷ d ∷ []
@@ -258,6 +259,11 @@ errors-cleared b c inside idle boot program =
     bits : (k : ℕ) → bit k c ≡ given b (bit k c) k
     bits k = known c 6 k boot (known c 7 k program (known c 15 k idle (sym (within-bit 0xF0CF c inside k))))
 
+-- the lock of the upper alias is none of the bits that are cleared
+upper-lock : (c : ℕ) → hasOf c UBWPULOCK ≡ true → hasOf (clearOf c 0x1F) UBWPULOCK ≡ true
+upper-lock c on =
+    has-bit 7 (clearOf c 0x1F) ∙ clear-bit 7 c 0x1F ∙ ap (λ (t : Bool). t && true) (sym (has-bit 7 c) ∙ on)
+
 -- the device after the first part of the prologue, and after the whole
 abbrev pub clearedDevice : Bool → Device → Device
 clearedDevice b d = withCon d (enabledCon b 0) 0 (d .step)
@@ -320,4 +326,5 @@ module _ (g : Geometry) (b : Bool) (d : Device) (rest : AtRest g d) (boot : bfsw
     pub ready-between : pwpOf d < programBytesOf g → length (d .nvmdata) ≡ 4 → Between g b (readyDevice b d)
     ready-between reach quad =
         let free : UpperFree (readyDevice b d) = λ i l. simp (clear-bit, ones-bit 5 i l, and-false) in
+        let still = upper-lock (d .nvmbwp .0) lock in
         search (ready-rest, none-codes b)

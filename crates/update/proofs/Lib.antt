@@ -25,3 +25,5 @@ pub mod KeyLaws
 pub mod Probes
 pub mod Reasons
 pub mod LargerTotals
+pub mod MoveLaws
+pub mod Moves

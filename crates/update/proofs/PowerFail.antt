@@ -38,7 +38,7 @@ use Rattle.update.proofs.Blocks.{Fixed, Finished, Stands, oldWord, newB
 use Rattle.update.proofs.PhaseLaws.{phase-place}
 use Rattle.update.proofs.StandsLaws.{stands-within, stands-answers, stands-turns, turns-reach}
 use Rattle.update.proofs.CutLaws.{Outcome, AfterCut, cut-leaves}
-use Rattle.update.proofs.StartLaws.{startFixed, start-stands, start-place, start-total, accepted-again}
+use Rattle.update.proofs.StartLaws.{startFixed, start-stands, start-place, start-total, can-start, accepted-again}
 
 -- ---- resets in any state
 -- one of the three kinds with a short SRAM is not declined
@@ -72,7 +72,7 @@ module _ (u : Fixed) where
   open Fixed u using (g, image, b, old, listed, image-long, image-words, old-words, valid, more)
 
   -- the whole new bank wins
-  new-wins : chosenOf b (oldWord u) (wordAt (newBank u) (sequenceIndexOf g)) ≡ not b
+  pub new-wins : chosenOf b (oldWord u) (wordAt (newBank u) (sequenceIndexOf g)) ≡ not b
   unfolding nextSequenceOf
   new-wins = ap (chosenOf b (oldWord u)) (same-word g (in-range g listed) image _ _ _ _ image-long) ∙ next-wins b (oldWord u) valid more
 
@@ -127,7 +127,7 @@ module _ (u : Fixed) where
             let (one, two) = both-placed Words b old (a .new) old-words (losing .words) in
             rw sign
             (record {
-              accepted = accepted-again u device (a .new) (a .long) losing (rw (losing .loses .chosen) at started);
+              accepted = accepted-again u device (a .new) (a .long) losing (can-start g b device (rw (losing .loses .chosen) at started));
               one-words = one;
               two-words = two;
               new-words = image-words;

@@ -29,6 +29,7 @@ use Rattle.reads.specs.Read.{same}
 use Rattle.resets.specs.Reset.{comparedOf}
 use Rattle.device.specs.State.{State, bankOf}
 use Rattle.controller.specs.Controller.{Sound}
+use Rattle.register_access.proofs.AcceptedLaws.{AtRest}
 use Rattle.update.specs.Actions.{totalOf}
 use Rattle.update.specs.Start.{lowerWordOf, otherWordOf, clashOf, lowerValidOf, resetKeepsOf, swapsAgreeOf, otherSafeOf, sequenceAllowsOf}
 use Rattle.update.specs.Start.{nextExistsOf, upperFreeOf, startDeclineOf, startOf}
@@ -167,13 +168,33 @@ unfolding startOf
 start-place g s image = refl
 
 -- ---- accepted again
+-- a device with which a start is declined for no reason of its own
+pub record CanStart (g : Geometry) (b : Bool) (f : Device) : Type 0 where
+  pub rest : AtRest g f
+  pub boot : bfswap f ≡ b
+  pub program : pfswap f ≡ b
+  pub lock : hasOf (f .nvmbwp .0) UBWPULOCK ≡ true
+  pub reach : pwpOf f < programBytesOf g
+
+-- as after a start-up
+pub can-start : (g : Geometry) (b : Bool) (f : Device) → Started g b f → CanStart g b f
+can-start g b f started =
+    let ok = started .rest .range in
+    record {
+      rest = started .rest;
+      boot = started .boot;
+      program = started .program;
+      lock = started .lock;
+      reach = omega (arith, started .pwp, mul-le-mul (ok .p-low) (ok .q-low));
+    }
+
 module _ (u : Fixed) (f : Device) (new : List ℕ) where
   open Fixed u using (g, image, b, old, listed, image-long, old-long, valid, more)
 
-  pub accepted-again : length new ≡ bankWordsOf g → Losing u new → Started g b f → acceptedOf (startOf g (placed b f old new) image .decline) ≡ true
+  pub accepted-again : length new ≡ bankWordsOf g → Losing u new → CanStart g b f → acceptedOf (startOf g (placed b f old new) image .decline) ≡ true
   unfolding startOf startDeclineOf sequenceAllowsOf upperFreeOf
   accepted-again long losing started =
-      rw (opened, started .rest .idle, lower-ok, keeps, agree, safe, next, started .lock, started .pwp, lt-ltb 0 (programBytesOf g) reach)
+      rw (opened, started .rest .idle, lower-ok, keeps, agree, safe, next, started .lock, lt-ltb _ _ (started .reach))
     where
       lower-is : lowerWordOf g (placed b f old new) ≡ wordAt old (sequenceIndexOf g)
       lower-is = lower-placed b f old new g (started .boot)
@@ -199,12 +220,29 @@ module _ (u : Fixed) (f : Device) (new : List ℕ) where
       next : nextExistsOf g (placed b f old new) ≡ true
       next = rw (lower-is, more)
 
-      reach : 0 < programBytesOf g
-      reach = let ok = in-range g listed in omega (arith, mul-le-mul (ok .p-low) (ok .q-low))
-
 -- the geometry of an accepted start is in range
 pub start-range : (g : Geometry) (s : State) (words : ℕ) → acceptedOf (startDeclineOf g s words) ≡ true → InRange g
 unfolding startDeclineOf
 start-range g s words h =
     ready g (s .device) (length (s .one) ∷ length (s .two) ∷ words ∷ []) 0
     (neither (commonDeclineOf g (s .device) (length (s .one) ∷ length (s .two) ∷ words ∷ []) 0) _ h .0) .lent .range
+
+-- with the whole new bank it is declined 10: a reset would choose that bank
+module _ (u : Fixed) (f : Device) (new : List ℕ) where
+  open Fixed u using (g, image, b, old, listed, image-long, old-long, valid)
+
+  pub declined-whole : length new ≡ bankWordsOf g → chosenOf b (wordAt old (sequenceIndexOf g)) (wordAt new (sequenceIndexOf g)) ≡ not b → CanStart g b f
+      → startOf g (placed b f old new) image .decline ≡ Decline.Sequence
+  unfolding startOf startDeclineOf sequenceAllowsOf
+  declined-whole long wins can =
+      let (first, other) = both-placed (λ (l : List ℕ). length l ≡ bankWordsOf g) b old new old-long long in
+      let opened = opens g f (length (pick b new old) ∷ length (pick b old new) ∷ length image ∷ []) 0 listed (first, (other, (image-long, tt)))
+      (omega arith) (can .rest .possible) in
+      rw (opened, can .rest .idle, ap validOf (lower-placed b f old new g (can .boot)) ∙ valid, loses)
+    where
+      loses : resetKeepsOf g (placed b f old new) ≡ false
+      loses = rw (compared-placed b f old new g ∙ wins, can .boot) (go b)
+        where
+          go : (t : Bool) → same (not t) t ≡ false
+          go true = refl
+          go false = refl

@@ -8,3 +8,4 @@ pub mod Run
 pub mod Probes
 pub mod Reasons
 pub mod LargerTotals
+pub mod Moves

@@ -16,7 +16,7 @@ use Rattle.sequence.specs.declared.comparison.Comparison.{Comparison}
 use Rattle.sequence.specs.Comparison.{reasonNumberOf}
 use Rattle.device.specs.State.{After, lent}
 use Rattle.resets.specs.Reset.{Explained}
-use Rattle.reads.specs.declared.FlashRead.{FlashRead}
+use Rattle.reads.specs.Read.{Reading}
 use Rattle.bank_parts.specs.Parts.{lowerBankDeclineOf, lowerOf, lowerBankOf, pageDeclineOf}
 use Rattle.script_play.specs.declared.PlayLength.{PlayLength}
 use Rattle.script_play.specs.Play.{Playback}
@@ -47,9 +47,6 @@ registerReadAnswerOf a = record { decline = numberOf (a .decline); value = a .va
 
 abbrev pub startUpAnswerOf : StartedUp → DeviceAnswer
 startUpAnswerOf a = record { decline = numberOf (a .decline); device = a .device }
-
-abbrev pub flashReadAnswerOf : FlashRead → FlashReadAnswer
-flashReadAnswerOf a = record { decline = numberOf (a .decline); word = a .word }
 
 abbrev pub updateStartAnswerOf : Started → UpdateStartAnswer
 updateStartAnswerOf a = record { decline = numberOf (a .decline); place = a .place; total = a .total }
@@ -87,6 +84,11 @@ pageAnswerOf g words page =
 abbrev pub StepGives : After → EventAnswer → RefT (List ℕ) → RefT (List ℕ) → Type 0
 StepGives a r one two =
     (r ≡ record { decline = numberOf (a .decline); event = a .event; device = a .state .device }) × (lent (r .device) one two ≡ a .state)
+
+abbrev pub FlashReadGives : Reading → FlashReadAnswer → RefT (List ℕ) → RefT (List ℕ) → Type 0
+FlashReadGives a r one two =
+    (r ≡ record { decline = numberOf (a .after .decline); word = a .word; event = a .after .event; device = a .after .state .device })
+    × (lent (r .device) one two ≡ a .after .state)
 
 abbrev pub ResetGives : Explained → ResetAnswer → RefT (List ℕ) → RefT (List ℕ) → Type 0
 ResetGives e r one two =

@@ -42,6 +42,8 @@ pub struct RegisterReadAnswer {
 pub struct FlashReadAnswer {
     pub decline: u32,
     pub word: u32,
+    pub event: bool,
+    pub device: Device,
 }
 
 // The number of the bank on the lower alias, 1 or 2, and how many words it has; both 0 where the request is declined.

@@ -6,7 +6,7 @@ ghost use Rattle.flash.specs.Step.{stepOf};
 ghost use Rattle.resets.specs.Reset.{explainedOf};
 ghost use Rattle.reads.specs.Read.{flashReadOf};
 ghost use Rattle.bank_parts.specs.Parts.{pagePartOf};
-ghost use Rattle.yohrundel.specs.Answers.{flashReadAnswerOf, lowerBankAnswerOf, pageAnswerOf, StepGives, ResetGives};
+ghost use Rattle.yohrundel.specs.Answers.{lowerBankAnswerOf, pageAnswerOf, FlashReadGives, StepGives, ResetGives};
 use crate::answers::EventAnswer;
 use crate::answers::FlashReadAnswer;
 use crate::answers::LowerBankAnswer;
@@ -25,20 +25,24 @@ use resets::reset;
 use words::word::has;
 
 #[no_mangle]
-pub extern "C" fn yohrundel_flash_read_2(
+pub extern "C" fn yohrundel_flash_read_3(
     g: Geometry,
     d: Device,
-    one: &[u32],
-    two: &[u32],
+    one: &mut [u32],
+    two: &mut [u32],
+    sram: &[u32],
     address: u32,
 ) -> FlashReadAnswer
-    ensures { λ r. ⌜ r ≡ flashReadAnswerOf (flashReadOf g (lent d (one .entry) (two .entry)) address) ⌝ }
+    ensures { λ r. ⌜ FlashReadGives (flashReadOf g (lent d (one .entry) (two .entry)) (now (sram .entry)) address) r (one .exit) (two .exit) ⌝ }
 {
-    let a = flash_read(g, d, one, two, address);
+    let a = flash_read(g, d, one, two, sram, address);
     let decline = a.decline;
+    let device = a.device;
     FlashReadAnswer {
         decline: decline.number(),
         word: a.word,
+        event: a.event,
+        device,
     }
 }
 

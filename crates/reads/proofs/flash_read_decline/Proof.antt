@@ -8,7 +8,7 @@ use Rattle.words.specs.Decline.{acceptedOf}
 use Rattle.words.proofs.DeclineLaws.{stopped, went-on}
 use Rattle.common_declines.specs.CommonDecline.{commonDeclineOf}
 use Rattle.common_declines.proofs.CommonDeclineLaws.{Ready, ready}
-use Rattle.reads.specs.Read.{flashReadDeclineOf, readableOf}
+use Rattle.reads.specs.Read.{flashReadDeclineOf}
 use Rattle.reads.proofs.flash_read_decline.Statement.{statement}
 use Rattle.reads.proofs.flash_read_decline.Tie as tie
 
@@ -20,10 +20,10 @@ declined c =
 
 -- none of declines 1 to 3 applies
 accepted : (c : tie.Else1) → let a = c .before .before .before .args in
-    acceptedOf (commonDeclineOf (a .g) (a .d) (a .one ∷ a .two ∷ []) 0) ≡ true
+    acceptedOf (commonDeclineOf (a .g) (a .d) (a .one ∷ a .two ∷ []) (a .sram)) ≡ true
 accepted c = went-on (c .before .before .common-decline .ensures) (c .before .is-accepted .ensures) (c .if1 .left)
 
-opened : (c : tie.Else1) → let a = c .before .before .before .args in Ready (a .g) (a .d) (a .one ∷ a .two ∷ []) 0
+opened : (c : tie.Else1) → let a = c .before .before .before .args in Ready (a .g) (a .d) (a .one ∷ a .two ∷ []) (a .sram)
 opened c = ready _ _ _ _ (accepted c)
 
 ranged : tie.Need-is-readable-requires
@@ -33,39 +33,9 @@ unreadable : tie.Need-returns-2
 unfolding flashReadDeclineOf
 unreadable c = rw (accepted (c .before .before), sym (c .before .is-readable .ensures) ∙ not-true _ (c .if2 .taken))
 
--- decline 8 does not apply
-readable : (c : tie.Else2) → let a = c .before .before .before .before .before .args in readableOf (a .g) (a .address) ≡ true
-readable c = sym (c .before .is-readable .ensures) ∙ not-false _ (c .if2 .left)
-
-located : tie.Need-locate-requires
-located c κs = opened (c .before .before) .lent .range
-
-possible : tie.Need-is-free-requires
-possible c κs = let r = opened (c .before .before .before .before) in (r .lent .range, r .possible)
-
-busy : tie.Need-returns-3
+readable : tie.Need-returns-3
 unfolding flashReadDeclineOf
-busy c =
-    let place = c .before .before .before in
-    rw (
-      accepted (place .before .before .before),
-      readable (place .before),
-      ← place .locate .ensures,
-      ← c .before .before .second-at .ensures,
-      sym (c .before .is-free .ensures) ∙ not-true _ (c .if3 .taken),
-    )
-
-free : tie.Need-returns-4
-unfolding flashReadDeclineOf
-free c =
-    let place = c .before .before .before in
-    rw (
-      accepted (place .before .before .before),
-      readable (place .before),
-      ← place .locate .ensures,
-      ← c .before .before .second-at .ensures,
-      sym (c .before .is-free .ensures) ∙ not-false _ (c .if3 .left),
-    )
+readable c = rw (accepted (c .before .before), sym (c .before .is-readable .ensures) ∙ not-false _ (c .if2 .left))
 
 pub flash-read-decline-spec : {M : Type 1} → statement M
 flash-read-decline-spec =
@@ -76,8 +46,4 @@ flash-read-decline-spec =
     declined
     ranged
     unreadable
-    located
-    (λ c κs. search needs)
-    possible
-    busy
-    free)
+    readable)
