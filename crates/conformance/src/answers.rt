@@ -3,10 +3,9 @@ ghost use Prim.Native.Nat.{_≤_, _<_};
 ghost use lib.ListN.{length};
 ghost use Rattle.io.specs.Counts.{Counts};
 ghost use Rattle.conformance_io.specs.Output.{Used};
-use conformance_calls::calls::call_answer;
+use conformance_calls::calls::put_call;
 use conformance_calls::names::Call;
 use conformance_io::output::flush;
-use conformance_io::output::put_answer;
 use conformance_lists::bytes::find;
 
 // The longest list that can be lent, in words: a page more than the largest bank.
@@ -47,8 +46,7 @@ fn put_line(
     let inputs = &line[..end];
     let after = find(inputs, 0, b' ');
     let call = Call::of(&inputs[..after]);
-    let given = call_answer(call, inputs, after, one, two, spare);
-    put_answer(out, used, given)
+    put_call(out, used, call, inputs, after, one, two, spare)
 }
 
 // Answers each line that has its line feed; gives where the first line without one starts.

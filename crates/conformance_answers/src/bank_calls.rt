@@ -12,22 +12,7 @@ use conformance_io::records::device_of;
 use conformance_io::records::geometry_of;
 use device::registers::Nvmcon;
 use geometry::banks::page_words;
-use reads::flash_read;
 use words::word::has;
-
-pub fn flash_read_answer(front: [u32; 26], one: &[u32], two: &[u32], address: u32) -> Answer
-    ensures { λ r. ⌜ r .count ≤ 26 ⌝ }
-{
-    let g = geometry_of(front);
-    let d = device_of(front);
-    let given = flash_read(g, d, one, two, address);
-    let decline = given.decline;
-    let first = Answer::only(decline.number());
-    if !decline.is_accepted() {
-        return first;
-    }
-    first.with(given.word)
-}
 
 // The number of the bank that a part is, or 0 where it is neither. Where both are equal, BFSWAP names it.
 fn bank_number(part: &[u32], one: &[u32], two: &[u32], swap: bool) -> u32 {

@@ -3,10 +3,11 @@ ghost use Prim.Native.Nat.{_≤_, _<_};
 ghost use lib.ListN.{length};
 ghost use Rattle.conformance_cases.specs.Cases.{Parted};
 ghost use Rattle.conformance_io.specs.Changes.{Lent};
+ghost use Rattle.conformance_io.specs.Output.{Used};
 use crate::names::Call;
-use conformance_answers::bank_calls::flash_read_answer;
 use conformance_answers::bank_calls::lower_bank_answer;
 use conformance_answers::bank_calls::page_answer;
+use conformance_answers::changing_calls::flash_read_answer;
 use conformance_answers::changing_calls::reset_answer;
 use conformance_answers::changing_calls::step_answer;
 use conformance_answers::device_calls::compare_answer;
@@ -20,6 +21,9 @@ use conformance_answers::update_calls::update_start_answer;
 use conformance_cases::Case;
 use conformance_cases::take_case;
 use conformance_io::answer::Answer;
+use conformance_io::changes::put_given;
+use conformance_io::output::put_end;
+use conformance_io::output::put_numbers;
 
 // What a call that lends no list gives for its numbers.
 fn device_answer(call: Call, words: [u32; 26]) -> Answer
@@ -48,7 +52,6 @@ fn still_answer<'a>(
     ensures { λ r. ⌜ r .count ≤ 26 ⌝ }
 {
     match call {
-        Call::FlashRead => flash_read_answer(front, one, two, last),
         Call::LowerBank => lower_bank_answer(front, one, two),
         Call::Page => page_answer(front, one, last),
         _ => device_answer(call, front),
@@ -56,50 +59,70 @@ fn still_answer<'a>(
 }
 
 // What a call gives for its inputs. The banks are cut to their lengths.
-fn case_answer(
+fn case_answer(call: Call, case: Case, one: &mut [u32], two: &mut [u32], spare: &[u32]) -> Answer
+    requires { ⌜ Lent (now one) (now two) (now spare) (case .end) ⌝ }
+    requires { ⌜ Parted (now spare) (case .middle) (case .end) ⌝ }
+    ensures { λ r. ⌜ r .count ≤ 26 ⌝ }
+{
+    let front = case.front;
+    let back = case.back;
+    let middle = case.middle;
+    let rest = &spare[..case.end];
+    match call {
+        Call::FlashRead => flash_read_answer(front, one, two, rest, back[0]),
+        Call::Step => step_answer(front, one, two, rest),
+        Call::Reset => reset_answer(front, back, one, two, rest),
+        Call::Turn => turn_answer(front, one, two, rest, middle, back[0]),
+        Call::UpdateStart => update_start_answer(front, one, two, rest),
+        _ => still_answer(call, front, one, two, back[0]),
+    }
+}
+
+// Puts what a call gives for its inputs.
+fn put_case(
+    out: &mut [u8],
+    used: usize,
     call: Call,
     line: &[u8],
     case: Case,
     one: &mut [u32],
     two: &mut [u32],
     spare: &mut [u32],
-) -> Answer
+) -> usize
+    requires { ⌜ Used (now out) used ⌝ }
     requires { ⌜ Lent (now one) (now two) (now spare) (case .end) ⌝ }
     requires { ⌜ Parted (now spare) (case .middle) (case .end) ⌝ }
-    ensures { λ r. ⌜ r .count ≤ 42 ⌝ }
+    ensures { λ r. ⌜ Used (now (out .exit)) r ⌝ }
 {
-    let front = case.front;
-    let back = case.back;
     let lists = case.lists;
-    let middle = case.middle;
-    let end = case.end;
-    match call {
-        Call::Step => step_answer(line, lists, front, one, two, spare, end),
-        Call::Reset => reset_answer(line, lists, front, back, one, two, spare, end),
-        Call::Turn => turn_answer(line, lists, front, one, two, spare, middle, end, back[0]),
-        Call::UpdateStart => update_start_answer(front, one, two, &spare[..end]),
-        _ => still_answer(call, front, one, two, back[0]),
-    }
+    let given = case_answer(call, case, one, two, spare);
+    put_given(out, used, given, line, lists, one, two, spare)
 }
 
-// What a call gives for the inputs from a position to the line's end.
-pub fn call_answer(
+// Puts what a call gives for the inputs from a position to the line's end, or a question mark where they are no case.
+pub fn put_call(
+    out: &mut [u8],
+    used: usize,
     call: Call,
     line: &[u8],
     at: usize,
     one: &mut [u32],
     two: &mut [u32],
     spare: &mut [u32],
-) -> Answer
-    ensures { λ r. ⌜ r .count ≤ 42 ⌝ }
+) -> usize
+    requires { ⌜ Used (now out) used ⌝ }
+    ensures { λ r. ⌜ Used (now (out .exit)) r ⌝ }
 {
     let case = take_case(line, at, call.shape(), one, two, spare);
     if !case.is_right {
-        return Answer::no_case();
+        let mark = put_numbers(out, used, Answer::no_case());
+        return put_end(out, mark);
     }
     let first = case.one;
     let second = case.two;
-    case_answer(
+    put_case(
+        out,
+        used,
         call,
         line,
         case,

@@ -84,7 +84,7 @@ impl Call {
             Call::Protected => taking(25, 0, 0),
             Call::Store => taking(25, 0, 0),
             Call::RegisterRead => taking(23, 0, 0),
-            Call::FlashRead => taking(22, 2, 1),
+            Call::FlashRead => taking(22, 3, 1),
             Call::LowerBank => taking(22, 2, 0),
             Call::Page => taking(3, 1, 1),
             Call::Step => taking(22, 3, 0),

@@ -3,10 +3,11 @@
 ghost use mathlib.Core.Path.{_≡_};
 ghost use Prim.Native.Nat.{_+_, _<_};
 
-// The numbers of an answer; none where the line is no case.
+// The numbers of an answer, none where the line is no case, and whether what changed in the banks follows them.
 pub struct Answer {
     pub count: usize,
-    pub words: [u32; 42],
+    pub words: [u32; 26],
+    pub has_changes: bool,
 }
 
 impl Answer {
@@ -15,13 +16,14 @@ impl Answer {
     {
         Answer {
             count: 0,
-            words: [0; 42],
+            words: [0; 26],
+            has_changes: false,
         }
     }
 
     // The answer with one more number. Callers show that there is room.
     pub fn with(mut self, word: u32) -> Answer
-        requires { ⌜ self .count < 42 ⌝ }
+        requires { ⌜ self .count < 26 ⌝ }
         ensures { λ r. ⌜ r .count ≡ self .count + 1 ⌝ }
     {
         let at = self.count;
@@ -32,7 +34,7 @@ impl Answer {
 
     // The answer with 1 or 0 after it.
     pub fn with_flag(self, flag: bool) -> Answer
-        requires { ⌜ self .count < 42 ⌝ }
+        requires { ⌜ self .count < 26 ⌝ }
         ensures { λ r. ⌜ r .count ≡ self .count + 1 ⌝ }
     {
         if flag {
@@ -46,5 +48,12 @@ impl Answer {
         ensures { λ r. ⌜ r .count ≡ 1 ⌝ }
     {
         Answer::no_case().with(word)
+    }
+    // The answer with what changed in the banks after it.
+    pub fn with_changes(mut self) -> Answer
+        ensures { λ r. ⌜ r .count ≡ self .count ⌝ }
+    {
+        self.has_changes = true;
+        self
     }
 }

@@ -53,7 +53,7 @@ fn put_number(out: &mut [u8], used: usize, number: u64) -> usize
 }
 
 // A number after a blank.
-fn put_next(out: &mut [u8], used: usize, number: u64) -> usize
+pub fn put_next(out: &mut [u8], used: usize, number: u64) -> usize
     requires { ⌜ Used (now out) used ⌝ }
     ensures { λ r. ⌜ Used (now (out .exit)) r ⌝ }
 {
@@ -61,14 +61,14 @@ fn put_next(out: &mut [u8], used: usize, number: u64) -> usize
     put_number(out, blank, number)
 }
 
-fn wide(number: u32) -> u64 {
+pub fn wide(number: u32) -> u64 {
     number as u64
 }
 
 // The numbers of an answer after its first, each after a blank.
 fn put_rest(out: &mut [u8], used: usize, answer: Answer) -> usize
     requires { ⌜ Used (now out) used ⌝ }
-    requires { ⌜ answer .count ≤ 42 ⌝ }
+    requires { ⌜ answer .count ≤ 26 ⌝ }
     ensures { λ r. ⌜ Used (now (out .exit)) r ⌝ }
 {
     let words = answer.words;
@@ -81,17 +81,24 @@ fn put_rest(out: &mut [u8], used: usize, answer: Answer) -> usize
     at
 }
 
-// An answer on a line of its own.
-pub fn put_answer(out: &mut [u8], used: usize, answer: Answer) -> usize
+// The numbers of an answer; a question mark where there are none.
+pub fn put_numbers(out: &mut [u8], used: usize, answer: Answer) -> usize
     requires { ⌜ Used (now out) used ⌝ }
-    requires { ⌜ answer .count ≤ 42 ⌝ }
+    requires { ⌜ answer .count ≤ 26 ⌝ }
     ensures { λ r. ⌜ Used (now (out .exit)) r ⌝ }
 {
     if answer.count == 0 {
-        return put_bytes(out, used, b"?\n");
+        return put_byte(out, used, b'?');
     }
     let words = answer.words;
     let first = put_number(out, used, wide(words[0]));
-    let last = put_rest(out, first, answer);
-    put_byte(out, last, b'\n')
+    put_rest(out, first, answer)
+}
+
+// The end of a line.
+pub fn put_end(out: &mut [u8], used: usize) -> usize
+    requires { ⌜ Used (now out) used ⌝ }
+    ensures { λ r. ⌜ Used (now (out .exit)) r ⌝ }
+{
+    put_byte(out, used, b'\n')
 }

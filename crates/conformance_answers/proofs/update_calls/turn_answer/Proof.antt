@@ -1,14 +1,12 @@
--- A turn keeps the lengths of the banks, so the spare buffer has room for each after it too.
+-- The middle lies within the list.
+use mathlib.Core.Path.{sym}
 use borrow.Author.Needs.{needs}
-use native.Mathlib.Omega.{arith}
+use lib.Seq.{length-take-le}
 use Rattle.conformance_answers.proofs.update_calls.turn_answer.Statement.{statement}
 use Rattle.conformance_answers.proofs.update_calls.turn_answer.Tie as tie
 
-room : tie.Need-with-changes-requires
-room c κs =
-    let turn = c .before .before .before .before .before .before .before .before in
-    let start = turn .before .before .before .before .before .before .before .before .before .before in
-    omega (arith, turn .turn-with .kept, start .pre)
+middle-lies : tie.Need-slice-aggregate-image
+middle-lies c = sym (length-take-le _ _ (search needs))
 
 pub turn-answer-spec : {M : Type 1} → statement M
 turn-answer-spec =
@@ -16,12 +14,23 @@ turn-answer-spec =
     (tie.spec
     (λ c κs. search needs)
     (λ c κs. search needs)
+    middle-lies
+    (λ c. search needs)
+    (λ c. search needs)
     (λ c. search needs)
     (λ c. search needs)
     (λ c κs. search needs)
     (λ c κs. search needs)
-    room
+    (λ c κs. search needs)
+    (λ c κs. search needs)
     (λ c. search needs)
+    (λ c. search needs)
+    (λ c. search needs)
+    (λ c κs. search needs)
+    (λ c κs. search needs)
+    (λ c κs. search needs)
+    (λ c κs. search needs)
+    (λ c κs. search needs)
     (λ c. search needs)
     (λ c. search needs)
     (λ c. search needs))
