@@ -65,10 +65,19 @@ static void device_calls(yohrundel_device d)
     printf("\n");
 }
 
+/* What a flash read gives, but for the words that it changed. */
+static void print_read(const yohrundel_flash_read_answer *read)
+{
+    printf("flash_read %" PRIu32 " %" PRIu32 " %d", read->decline, read->word, read->event);
+    print_device(&read->device);
+}
+
 static void reading_calls(yohrundel_device d)
 {
-    const yohrundel_flash_read_answer read = yohrundel_flash_read(GEOMETRY, d, one, WORDS, two, WORDS, 0x1FC00070);
-    printf("flash_read %" PRIu32 " %" PRIu32 "\n", read.decline, read.word);
+    const yohrundel_flash_read_answer read =
+        yohrundel_flash_read(GEOMETRY, d, one, WORDS, two, WORDS, NULL, 0, 0x1FC00070);
+    print_read(&read);
+    printf(" 0\n");
 
     const yohrundel_lower_bank_answer lower = yohrundel_lower_bank(GEOMETRY, d, one, WORDS, two, WORDS);
     printf("lower_bank %" PRIu32 " %" PRIu32 "\n", lower.decline, lower.bank);
@@ -88,6 +97,17 @@ static yohrundel_device launched(yohrundel_device d)
     return d;
 }
 
+/* The quad's four words as changes of bank 2; then it is blank again. */
+static void print_and_erase_quad(void)
+{
+    printf(" 4");
+    for (int i = 32; i < 36; i++) {
+        printf(" 2 %d %" PRIu32, i, two[i]);
+        two[i] = UINT32_MAX;
+    }
+    printf("\n");
+}
+
 /* The next target is loaded while the program runs, and the step still writes the quad that was launched. */
 static void step_call(yohrundel_device d)
 {
@@ -100,12 +120,17 @@ static void step_call(yohrundel_device d)
     const yohrundel_event_answer stepped = yohrundel_step(GEOMETRY, loaded.device, one, WORDS, two, WORDS, NULL, 0);
     printf("step %" PRIu32, stepped.decline);
     print_device(&stepped.device);
-    printf(" %d 4", stepped.event);
-    for (int i = 32; i < 36; i++) {
-        printf(" 2 %d %" PRIu32, i, two[i]);
-        two[i] = UINT32_MAX;
-    }
-    printf("\n");
+    printf(" %d", stepped.event);
+    print_and_erase_quad();
+}
+
+/* A read of the bank that the program works on waits for its step, and gives the word just programmed. */
+static void waiting_call(yohrundel_device d)
+{
+    const yohrundel_flash_read_answer read =
+        yohrundel_flash_read(GEOMETRY, launched(d), one, WORDS, two, WORDS, NULL, 0, 0x1D000088);
+    print_read(&read);
+    print_and_erase_quad();
 }
 
 /* The bank that goes lower, and why; a declined reset has compared nothing. */
@@ -179,6 +204,7 @@ int main(void)
     device_calls(d);
     reading_calls(d);
     step_call(d);
+    waiting_call(d);
     plan_call();
     compare_calls();
     lanes_calls();

@@ -87,7 +87,7 @@ enum yohrundel_decline {
     YOHRUNDEL_DECLINE_RESET_KIND = 7,
     /* A flash read outside the four windows or not on a multiple of 4; a page request with a page number of N or more. */
     YOHRUNDEL_DECLINE_ADDRESS = 8,
-    /* A flash read from a bank that the running operation targets, as it was launched. */
+    /* No call gives it any more: it was a flash read from a bank that the running operation targets, and such a read now waits. */
     YOHRUNDEL_DECLINE_BUSY = 9,
     /*
      * Update start: the lower-alias bank's sequence is invalid, a reset would choose the other bank, PFSWAP differs from BFSWAP, or the
@@ -270,6 +270,9 @@ typedef struct yohrundel_flash_read_answer {
     uint32_t decline;
     /* The word at the address; 0 where declined. */
     uint32_t word;
+    /* Whether the read waited, and so gave the event of the operation's end; false where declined. */
+    bool event;
+    yohrundel_device device;
 } yohrundel_flash_read_answer;
 
 /* The answer to a request for the bank on the lower alias. */
@@ -357,13 +360,14 @@ typedef struct yohrundel_page_sheet_answer {
  * ---- symbols of the calls that take or give a device
  *
  * Since the device record has launched, these calls have new symbols: an object file that was compiled with the record as it was before
- * does not link with these archives, where its device would be too short. Programs call them by their names, and are compiled again.
+ * does not link with these archives, where its device would be too short. The flash read has another one since it is lent the SRAM, may
+ * change the banks and gives a device. Programs call them by their names, and are compiled again.
  */
 #define yohrundel_power_on yohrundel_power_on_2
 #define yohrundel_store yohrundel_store_2
 #define yohrundel_register_read yohrundel_register_read_2
 #define yohrundel_start_up yohrundel_start_up_2
-#define yohrundel_flash_read yohrundel_flash_read_2
+#define yohrundel_flash_read yohrundel_flash_read_3
 #define yohrundel_lower_bank yohrundel_lower_bank_2
 #define yohrundel_step yohrundel_step_2
 #define yohrundel_reset yohrundel_reset_2
@@ -414,13 +418,16 @@ yohrundel_compare_answer yohrundel_compare(uint32_t first, uint32_t other);
  */
 
 /*
- * Reads the word at a byte address in one of the four windows. Declines 1, 2, 3, 8 and 9; whether 9 applies is asked of the launched
- * address, not of NVMADDR.
+ * Reads the word at a byte address in one of the four windows. Where the running operation targets the word's bank, by the address that it
+ * was launched with and not by NVMADDR, the read waits: it first carries out the operation's remaining steps, each as yohrundel_step does,
+ * up to an abort if one comes, and then gives the word from the banks as they are, with the event. Any other read changes nothing. Inside
+ * an update a turn whose step a read has done is declined by 6. Declines 1, 2, 3 and 8.
  */
 yohrundel_flash_read_answer yohrundel_flash_read(
     yohrundel_geometry g, yohrundel_device d,
-    const uint32_t *one, size_t one_words,
-    const uint32_t *two, size_t two_words,
+    uint32_t *one, size_t one_words,
+    uint32_t *two, size_t two_words,
+    const uint32_t *sram, size_t sram_words,
     uint32_t address);
 
 /* Names the bank on the lower boot alias. Declines 1, 2 and 3. */

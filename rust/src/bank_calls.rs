@@ -11,18 +11,38 @@ pub struct Stepped {
     pub event: bool,
 }
 
-/// The word at a byte address in one of the four windows. It is declined where the running operation targets its bank, by the address that
-/// was launched and not by NVMADDR.
+/// What a flash read gives and leaves beside the banks.
+#[derive(Clone, Copy, Debug, PartialEq, Eq, Hash)]
+pub struct FlashRead {
+    /// The word at the address.
+    pub word: u32,
+    /// Whether the read waited, and so gave the event of the operation's end.
+    pub event: bool,
+    /// The device afterwards.
+    pub device: Device,
+}
+
+/// The word at a byte address in one of the four windows.
+///
+/// Where the running operation targets the word's bank, by the address that it was launched with and not by NVMADDR, the read waits: it
+/// first carries out the operation's remaining steps, each as [`step`] does, up to an abort if one comes, and changes the device and the
+/// banks by them. The word is from the banks as they then are. Any other read changes nothing. Inside an update a turn whose step a read
+/// has done is declined by [`Decline::Idle`].
 pub fn flash_read(
     geometry: Geometry,
     device: Device,
-    one: &[u32],
-    two: &[u32],
+    one: &mut [u32],
+    two: &mut [u32],
+    sram: &[u32],
     address: u32,
-) -> Result<u32, Decline> {
-    let answer = ffi::flash_read(geometry, device, one, two, address);
+) -> Result<FlashRead, Decline> {
+    let answer = ffi::flash_read(geometry, device, one, two, sram, address);
     Decline::judge(answer.decline)?;
-    Ok(answer.word)
+    Ok(FlashRead {
+        word: answer.word,
+        event: answer.event,
+        device: answer.device,
+    })
 }
 
 /// The bank on the lower boot alias: the lent bank itself.

@@ -22,7 +22,7 @@ pub enum Decline {
     ResetKind = 7,
     /// A flash read outside the four windows or not on a multiple of 4; a page number of N or more.
     Address = 8,
-    /// A flash read from a bank that the running operation targets, as it was launched.
+    /// No call is declined by it any more: it was a flash read from a bank that the running operation targets, and such a read now waits.
     Busy = 9,
     /// The sequence words or the mapping do not allow an update.
     Sequence = 10,

@@ -1,7 +1,7 @@
 //! The archives' functions and their answers as `include/yohrundel.h` declares them, and the one place that calls them.
 //!
 //! What takes or gives a device has a symbol that ends in `_2`, as in the header: an archive that knows the shorter device of before does
-//! not link.
+//! not link. The flash read's ends in `_3` since it is lent the SRAM and gives a device.
 //!
 //! A slice is two arguments, a pointer and a count. The functions take every number, every length and every content. What they ask of a
 //! caller a borrow gives: each pointer is that of a slice of as many elements, which lives during the call, and what is written is
@@ -56,6 +56,8 @@ pub(crate) struct RegisterReadAnswer {
 pub(crate) struct FlashReadAnswer {
     pub decline: u32,
     pub word: u32,
+    pub event: bool,
+    pub device: Device,
 }
 
 #[repr(C)]
@@ -125,14 +127,16 @@ extern "C" {
     #[link_name = "yohrundel_start_up_2"]
     fn yohrundel_start_up(g: Geometry, d: Device) -> DeviceAnswer;
 
-    #[link_name = "yohrundel_flash_read_2"]
+    #[link_name = "yohrundel_flash_read_3"]
     fn yohrundel_flash_read(
         g: Geometry,
         d: Device,
-        one: *const u32,
+        one: *mut u32,
         one_words: usize,
-        two: *const u32,
+        two: *mut u32,
         two_words: usize,
+        sram: *const u32,
+        sram_words: usize,
         address: u32,
     ) -> FlashReadAnswer;
 
@@ -272,14 +276,20 @@ pub(crate) fn start_up(g: Geometry, d: Device) -> DeviceAnswer {
 pub(crate) fn flash_read(
     g: Geometry,
     d: Device,
-    one: &[u32],
-    two: &[u32],
+    one: &mut [u32],
+    two: &mut [u32],
+    sram: &[u32],
     address: u32,
 ) -> FlashReadAnswer {
-    let (one, one_words) = (one.as_ptr(), one.len());
-    let (two, two_words) = (two.as_ptr(), two.len());
-    // SAFETY: each pointer and its count are a slice's; nothing is written.
-    unsafe { yohrundel_flash_read(g, d, one, one_words, two, two_words, address) }
+    let (one, one_words) = (one.as_mut_ptr(), one.len());
+    let (two, two_words) = (two.as_mut_ptr(), two.len());
+    let (sram, sram_words) = (sram.as_ptr(), sram.len());
+    // SAFETY: each pointer and its count are a slice's; only the banks are written, which are borrowed for it.
+    unsafe {
+        yohrundel_flash_read(
+            g, d, one, one_words, two, two_words, sram, sram_words, address,
+        )
+    }
 }
 
 pub(crate) fn lower_bank(g: Geometry, d: Device, one: &[u32], two: &[u32]) -> LowerBankAnswer {

@@ -38,7 +38,7 @@ mod script_calls;
 mod sheet;
 mod update_calls;
 
-pub use bank_calls::{flash_read, lower_bank, page, reset, step, Restarted, Stepped};
+pub use bank_calls::{flash_read, lower_bank, page, reset, step, FlashRead, Restarted, Stepped};
 pub use compare::{compare, Compared, Reason};
 pub use decline::Decline;
 pub use device::{Bank, Device, Operands};

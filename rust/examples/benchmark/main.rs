@@ -6,6 +6,7 @@
 
 mod clock;
 mod lanes;
+mod reads;
 mod rounds;
 mod scripts;
 mod sheets;
@@ -22,4 +23,5 @@ fn main() {
     scripts::beside_the_model();
     lanes::beside_plain_loops();
     sheets::beside_the_model();
+    reads::beside_the_model();
 }

@@ -23,6 +23,17 @@ fn on_banks(banks: &[Vec<u32>; 2], call: impl FnOnce(&mut [u32], &mut [u32]) -> 
     }
 }
 
+pub fn flash_read_case(inputs: &mut Inputs) -> String {
+    let (sign, device) = (inputs.geometry(), inputs.device());
+    let banks = [inputs.list(), inputs.list()];
+    let (sram, address) = (inputs.list(), inputs.number());
+    on_banks(&banks, |one, two| {
+        let read = flash_read(sign, device, one, two, &sram, address)?;
+        let front = vec![read.word.into(), read.event.into()];
+        Ok([front, device_numbers(&read.device)].concat())
+    })
+}
+
 pub fn step_case(inputs: &mut Inputs) -> String {
     let (sign, device) = (inputs.geometry(), inputs.device());
     let banks = [inputs.list(), inputs.list()];

@@ -7,7 +7,7 @@
 use yohrundel::*;
 
 use crate::answers::{device_and_event, device_numbers, text, Answer};
-use crate::bank_cases::{play_case, reset_case, step_case, turn_case};
+use crate::bank_cases::{flash_read_case, play_case, reset_case, step_case, turn_case};
 use crate::byte_cases::{lanes_case, sheet_case};
 use crate::inputs::Inputs;
 use crate::rules::{self, possible, protected};
@@ -50,7 +50,7 @@ fn call(name: &str, inputs: &mut Inputs) -> String {
         "store" => text(&store_case(inputs)),
         "register_read" => text(&register_read_case(inputs)),
         "startup" => text(&start_up_case(inputs)),
-        "flash_read" => text(&flash_read_case(inputs)),
+        "flash_read" => flash_read_case(inputs),
         "lower_bank" => lower_bank_case(inputs),
         "page" => text(&page_case(inputs)),
         "update_start" => text(&update_start_case(inputs)),
@@ -82,13 +82,6 @@ fn register_read_case(inputs: &mut Inputs) -> Answer {
 fn start_up_case(inputs: &mut Inputs) -> Answer {
     let device = start_up(inputs.geometry(), inputs.device())?;
     Ok(device_numbers(&device))
-}
-
-fn flash_read_case(inputs: &mut Inputs) -> Answer {
-    let (sign, device) = (inputs.geometry(), inputs.device());
-    let (one, two) = (inputs.list(), inputs.list());
-    let word = flash_read(sign, device, &one, &two, inputs.number())?;
-    Ok(vec![word.into()])
 }
 
 /// The number of the bank by where its first word stands.

@@ -183,6 +183,39 @@ impl Sign {
         self.compare("register read");
     }
 
+    /// A flash read; the words and events agree. True where it waited.
+    pub fn read_flash(&mut self, sram: &[u32], address: u32) -> bool {
+        let [one, two] = &mut self.outside_banks;
+        let mut banks = Banks { one, two };
+        let (numbers, before) = (self.numbers, self.outside_device);
+        let expected = flash::flash_read(numbers, before, &mut banks, sram, address)
+            .expect("the model takes the flash read");
+        self.outside_device = expected.device;
+        let [one, two] = &mut self.banks;
+        let read = flash_read(self.geometry, self.device, one, two, sram, address)
+            .expect("the archive takes the flash read");
+        self.device = read.device;
+        assert_eq!((read.word, read.event), (expected.word, expected.event));
+        self.compare(&format!("flash read of {address:08X}"));
+        read.event
+    }
+
+    /// One step, as those inside a read that the supply cuts; the events agree.
+    pub fn step(&mut self, sram: &[u32]) {
+        let [one, two] = &mut self.outside_banks;
+        let mut banks = Banks { one, two };
+        let (numbers, before) = (self.numbers, self.outside_device);
+        let (after, event) =
+            flash::step(numbers, before, &mut banks, sram).expect("the model takes the step");
+        self.outside_device = after;
+        let [one, two] = &mut self.banks;
+        let stepped = step(self.geometry, self.device, one, two, sram);
+        let stepped = stepped.expect("the archive takes the step");
+        self.device = stepped.device;
+        assert_eq!(stepped.event, event);
+        self.compare("step");
+    }
+
     /// Turns from place 0 up to a place, and where asked on until an operation runs.
     fn run(&mut self, sram: &[u32], last: u32, into_step: bool) -> u32 {
         let mut place = 0;

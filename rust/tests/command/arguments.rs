@@ -80,24 +80,6 @@ fn arguments_that_are_not_understood() {
     let number = "\"4294967296\", not a number from 0 to 4294967295";
     wrong("update 4294967296 1 1", &format!("Q is {number}"));
     wrong("update 1 1 1 - -", "\"-\" is one argument too many");
-    wrong("cut 1 1 1", "PLACE is missing");
-    wrong("cut 1 1 1 0", "KIND is missing");
-    let kinds = "power-on, brown-out or other, or 0, 1 or 2";
-    wrong("cut 1 1 1 0 3", &format!("KIND is \"3\", not {kinds}"));
-    for mask in [
-        "",
-        "0x",
-        "g",
-        "+1",
-        "100000000",
-        "1,2",
-        "1,2,3,4,5",
-        "1,,2,3",
-    ] {
-        let reason = format!("MASK is {mask:?}, not one or four hexadecimal words");
-        wrong(&format!("cut 1 1 1 0 0 {mask}"), &reason);
-    }
-    wrong("cut 1 1 1 0 0 0 0", "\"0\" is one argument too many");
     wrong("plan 0 1", "START:LENGTH is missing");
     wrong("lanes", "the way is missing");
     wrong("lanes forth -", "the way is \"forth\", not out or back");
@@ -120,6 +102,36 @@ fn arguments_that_are_not_understood() {
     );
 }
 
+#[test]
+fn arguments_of_a_cut_that_are_not_understood() {
+    wrong("cut 1 1 1", "PLACE is missing");
+    wrong("cut 1 1 1 0", "KIND is missing");
+    let kinds = "power-on, brown-out or other, or 0, 1 or 2";
+    wrong("cut 1 1 1 0 3", &format!("KIND is \"3\", not {kinds}"));
+    for mask in [
+        "",
+        "0x",
+        "g",
+        "+1",
+        "100000000",
+        "1,2",
+        "1,2,3,4,5",
+        "1,,2,3",
+    ] {
+        let reason = format!("MASK is {mask:?}, not one or four hexadecimal words");
+        wrong(&format!("cut 1 1 1 0 0 {mask}"), &reason);
+    }
+    wrong("cut 1 1 1 0 0 0 0", "\"0\" is one argument too many");
+    wrong("cut 1 1 1 0 0 --read", "the value of --read is missing");
+    wrong("cut 1 1 1 0 0 --read 0 --read 0", "--read is given twice");
+    wrong("cut 1 1 1 0 0 --write 0", "there is no option \"--write\"");
+    wrong("cut 1 1 1 0 --read 0", "KIND is missing");
+    for address in ["", "0x", "x", "-4", "100000000", "1D000000h"] {
+        let reason = format!("the value of --read is {address:?}, not a hexadecimal address");
+        wrong(&format!("cut 1 1 1 0 0 --read {address}"), &reason);
+    }
+}
+
 /// Arguments that are declined, with the status 1.
 fn declined(arguments: &str, reason: &str) {
     let arguments: Vec<&str> = arguments.split(' ').collect();
@@ -139,6 +151,15 @@ fn declined_arguments() {
     }
     let reason = "13: the place exceeds the total: PLACE is 253, the total 252";
     declined("cut 1 1 1 253 0", reason);
+    declined("cut 1 1 1 253 0 --read 1D000001", reason);
+    for address in ["1D000001", "1cfffffc", "0x1D000100", "0", "FFFFFFFF"] {
+        let number = address.trim_start_matches("0x").to_uppercase();
+        let reason = "8: there is no such address or page: ADDRESS is 0x";
+        declined(
+            &format!("cut 1 1 1 19 0 --read {address}"),
+            &format!("{reason}{number:0>8}"),
+        );
+    }
 }
 
 #[test]

@@ -7,6 +7,7 @@ mod pipes;
 mod plan;
 mod play;
 mod readme;
+mod reads;
 mod run;
 mod sheet;
 mod terminal;

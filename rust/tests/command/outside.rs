@@ -1,7 +1,7 @@
 //! A sign in the outside model, and its picture.
 
 use model::device::{protected, Device};
-use model::flash::reset;
+use model::flash::{flash_read, reset};
 use model::geometry::{Bank, Banks, Geometry, Kind, Side};
 use model::script::{play_record, Record};
 use model::sequence::{new_quad, Reason};
@@ -126,6 +126,21 @@ impl Sign {
             let turned = turn(numbers, device, &mut banks, &self.image, &[], place);
             self.device = turned.expect("a turn").device;
         }
+    }
+
+    /// A flash read without SRAM: the word, and for how many steps it waited. An update erases pages and programs quads.
+    pub fn read(&mut self, address: u32) -> (u32, Option<u32>) {
+        let length = match self.device.nvmop() {
+            4 => self.geometry.page_quads(),
+            _ => 1,
+        };
+        let left = length - self.device.step_number;
+        let [one, two] = &mut self.banks;
+        let mut banks = Banks { one, two };
+        let read = flash_read(self.numbers, self.device, &mut banks, &[], address);
+        let read = read.expect("a flash read");
+        self.device = read.device;
+        (read.word, read.event.then_some(left))
     }
 
     pub fn picture(&self) -> String {

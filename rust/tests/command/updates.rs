@@ -7,7 +7,7 @@ use model::update::total;
 use crate::outside::{Sign, LEGEND};
 use crate::run::{bytes, file, finish, run, spawn};
 
-const MASKS: [[u32; 4]; 6] = [
+pub const MASKS: [[u32; 4]; 6] = [
     [0; 4],
     [!0; 4],
     [0x5555_5555; 4],
@@ -16,9 +16,9 @@ const MASKS: [[u32; 4]; 6] = [
     [0x1234_5678, 0x9ABC_DEF0, 0x0F1E_2D3C, 0x4B5A_6978],
 ];
 
-const KINDS: [&str; 3] = ["power-on", "brown-out", "other"];
+pub const KINDS: [&str; 3] = ["power-on", "brown-out", "other"];
 
-fn geometry_text([q, b, p]: [u32; 3]) -> String {
+pub fn geometry_text([q, b, p]: [u32; 3]) -> String {
     format!("{q} {b} {p}")
 }
 
@@ -84,8 +84,8 @@ fn change(before: &Sign, after: &Sign) -> String {
     format!("tears quad {number} of {page} of bank {bank}:\n{old} becomes\n{new}")
 }
 
-/// What a cut of a sign at a place prints, and the bank that runs then.
-fn cut(mut sign: Sign, place: u32, kind: u32, mask: [u32; 4]) -> (String, Bank) {
+/// What a cut of a sign prints, and the bank that runs then. Where it is cut is said by the front of a sentence.
+pub fn cut(mut sign: Sign, front: &str, kind: u32, mask: [u32; 4]) -> (String, Bank) {
     let operation = if sign.device.running() { "an" } else { "no" };
     let (total, at_cut, before) = (total(&sign.geometry), sign.picture(), sign.clone());
     let runs = sign.restart(kind, mask);
@@ -97,14 +97,14 @@ fn cut(mut sign: Sign, place: u32, kind: u32, mask: [u32; 4]) -> (String, Bank) 
     };
     let text = format!(
         "The update has {total} actions.\n\
-         At place {place} the supply fails while {operation} operation runs.\n\n{at_cut}\n\
+         {front} the supply fails while {operation} operation runs.\n\n{at_cut}\n\
          The reset ({name}) {change}.\n\
          After the reset and start-up bank {number} runs:\n{why}.\n\n{after}\n{again}\n{LEGEND}"
     );
     (text, runs)
 }
 
-fn mask_text(mask: [u32; 4]) -> String {
+pub fn mask_text(mask: [u32; 4]) -> String {
     match mask {
         [word, ..] if mask == [word; 4] => format!("0x{word:X}"),
         _ => mask.map(|word| format!("{word:x}")).join(","),
@@ -117,7 +117,8 @@ fn cuts(numbers: [u32; 3], cases: impl Iterator<Item = (u32, u32, [u32; 4])>) ->
     for (place, kind, mask) in cases {
         sign.turns(at, place);
         at = place;
-        let (expected, runs) = cut(sign.clone(), place, kind, mask);
+        let front = format!("At place {place}");
+        let (expected, runs) = cut(sign.clone(), &front, kind, mask);
         let name = KINDS[kind as usize];
         let kind = if place % 2 == 0 {
             name.into()

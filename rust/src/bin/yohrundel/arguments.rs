@@ -1,25 +1,25 @@
 //! The arguments of a command, taken one after another.
 
+use std::collections::VecDeque;
 use std::ffi::{OsStr, OsString};
-use std::slice::Iter;
 
 use yohrundel::Geometry;
 
 use crate::failure::Failure;
 
 pub struct Arguments<'a> {
-    rest: Iter<'a, OsString>,
+    rest: VecDeque<&'a OsStr>,
 }
 
 impl<'a> Arguments<'a> {
     pub fn new(arguments: &'a [OsString]) -> Arguments<'a> {
-        let rest = arguments.iter();
+        let rest = arguments.iter().map(OsString::as_os_str).collect();
         Arguments { rest }
     }
 
     /// The next argument, none at the end. One that begins with a hyphen is an option that there is not, but for `-` alone.
     pub fn optional(&mut self) -> Result<Option<&'a OsStr>, Failure> {
-        let Some(argument) = self.rest.next() else {
+        let Some(argument) = self.rest.pop_front() else {
             return Ok(None);
         };
         let bytes = argument.as_encoded_bytes();
@@ -32,10 +32,28 @@ impl<'a> Arguments<'a> {
 
     /// The next argument where it is the name of one of the options, and what stands for it.
     pub fn option<T: Copy>(&mut self, options: &[(&'static str, T)]) -> Option<(&'static str, T)> {
-        let next = self.rest.as_slice().first()?;
+        let next = self.rest.front()?;
         let option = options.iter().find(|(name, _)| next == name)?;
-        self.rest.next();
+        self.rest.pop_front();
         Some(*option)
+    }
+
+    /// What follows the name of an option, wherever both stand; none where the option is not given.
+    pub fn value(&mut self, name: &str) -> Result<Option<&'a OsStr>, Failure> {
+        let Some(place) = self.place(name) else {
+            return Ok(None);
+        };
+        self.rest.remove(place);
+        let missing = || Failure::arguments(format!("the value of {name} is missing"));
+        let value = self.rest.remove(place).ok_or_else(missing)?;
+        match self.place(name) {
+            Some(_) => Err(Failure::arguments(format!("{name} is given twice"))),
+            None => Ok(Some(value)),
+        }
+    }
+
+    fn place(&self, name: &str) -> Option<usize> {
+        self.rest.iter().position(|argument| *argument == name)
     }
 
     pub fn required(&mut self, name: &str) -> Result<&'a OsStr, Failure> {

@@ -2,7 +2,7 @@
 
 use yohrundel::{Bank, Decline};
 
-use crate::arguments::Arguments;
+use crate::arguments::{formed, hexadecimal, Arguments};
 use crate::command::Command;
 use crate::failure::{declined, Answer, Failure};
 use crate::picture::{legend, picture};
@@ -14,7 +14,7 @@ use crate::wording::{ending, runs, whole_update};
 
 pub const COMMAND: Command = Command {
     name: "cut",
-    arguments: "Q B P PLACE KIND [MASK]",
+    arguments: "Q B P PLACE KIND [MASK] [OPTION]",
     summary: "runs an update whose supply fails",
     details: "\
 Q, B and P are the sign's sizes, and it begins, as for yohrundel update; the
@@ -24,9 +24,14 @@ KIND is the kind of the reset: 0 or power-on, 1 or brown-out, 2 or other.
 MASK chooses, where an operation runs, which bits of its next quad get through
 (1) and which stay as they were (0): a hexadecimal word for all four words, or
 four with commas between them. It is 0 where none is given.
-It prints a picture of both banks at the cut, which bank runs after the reset
-and start-up and why, whether the same update is accepted again, and how that
-ends.",
+OPTION is --read ADDRESS: before the supply fails the CPU reads the word at that
+hexadecimal address. Boot pages are at 1FC00000, of the bank that runs, and at
+1FC20000, of the other; program pages are at 1D000000, of the bank that runs and
+then of the other. A read of the bank that an operation works on waits: it does
+the steps that are left, and the update's turns for them would be declined by 6.
+It prints what the read gave, and for how many steps it waited; a picture of
+both banks at the cut, which bank runs after the reset and start-up and why,
+whether the same update is accepted again, and how that ends.",
     run,
 };
 
@@ -35,15 +40,19 @@ struct Cut {
     place: u32,
     kind: Kind,
     mask: [u32; 4],
+    /// The address that the CPU reads just before.
+    read: Option<u32>,
 }
 
 fn run(mut arguments: Arguments) -> Answer {
     let mut progress = Progress::new();
+    let read = take_read(&mut arguments)?;
     let geometry = arguments.geometry()?;
     let cut = Cut {
         place: arguments.number("PLACE")?,
         kind: take_kind(&mut arguments)?,
         mask: take_mask(&mut arguments)?,
+        read,
     };
     arguments.end()?;
     let mut sign = Sign::fresh(geometry, made_up_image(geometry)?)?;
@@ -59,23 +68,51 @@ fn run(mut arguments: Arguments) -> Answer {
     Ok(format!("{before}\n{after}\n{again}\n{legend}").into())
 }
 
-/// The turns before the cut.
+/// The address of the option, where it is given.
+fn take_read(arguments: &mut Arguments) -> Result<Option<u32>, Failure> {
+    let Some(value) = arguments.value("--read")? else {
+        return Ok(None);
+    };
+    let (name, words) = ("the value of --read", "a hexadecimal address");
+    formed(value, name, words, hexadecimal).map(Some)
+}
+
+/// The turns before the cut, and the read.
 fn until_cut(
     sign: &mut Sign,
     total: u32,
     cut: &Cut,
     progress: &mut Progress,
-) -> Result<String, Decline> {
+) -> Result<String, Failure> {
     sign.turn_until(cut.place, progress)?;
+    let place = cut.place;
+    let before = match cut.read {
+        Some(address) => format!("At place {place} {}\nThen", reading(sign, address)?),
+        None => format!("At place {place}"),
+    };
     let operation = if sign.device.operation_runs() {
         "an operation"
     } else {
         "no operation"
     };
-    let (place, picture) = (cut.place, picture(sign)?);
+    let picture = picture(sign)?;
     Ok(format!(
         "The update has {total} actions.\n\
-         At place {place} the supply fails while {operation} runs.\n\n{picture}"
+         {before} the supply fails while {operation} runs.\n\n{picture}"
+    ))
+}
+
+/// A read of the CPU, as the rest of a sentence and one more.
+fn reading(sign: &mut Sign, address: u32) -> Result<String, Failure> {
+    let declined = |decline| Failure::declined(decline, format_args!("ADDRESS is 0x{address:08X}"));
+    let (word, steps) = sign.read(address).map_err(declined)?;
+    let waits = match steps {
+        Some(1) => String::from("waits for 1 step, the operation's last,"),
+        Some(steps) => format!("waits for {steps} steps, to the operation's end,"),
+        None => String::from("does not wait"),
+    };
+    Ok(format!(
+        "the CPU reads 0x{address:08X}.\nThe read {waits} and gives 0x{word:08X}."
     ))
 }
 

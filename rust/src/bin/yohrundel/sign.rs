@@ -2,8 +2,8 @@
 
 use yohrundel::reset_kind::POWER_ON;
 use yohrundel::{
-    play, play_length, reset, start_up, turn_lent, update_start, Bank, Decline, Device, Geometry,
-    Reason, TurnOutcome,
+    flash_read, play, play_length, reset, start_up, step, turn_lent, update_start, Bank, Decline,
+    Device, Geometry, Reason, TurnOutcome,
 };
 
 use crate::progress::Progress;
@@ -76,6 +76,26 @@ impl Sign {
         self.reason = Some(restarted.reason);
         self.device = start_up(self.geometry, restarted.device)?;
         Ok(())
+    }
+
+    /// A flash read without SRAM; gives the word, and for how many steps the read waited, none where it did not.
+    pub fn read(&mut self, address: u32) -> Result<(u32, Option<u32>), Decline> {
+        let steps = self.steps_left()?;
+        let [one, two] = &mut self.banks;
+        let read = flash_read(self.geometry, self.device, one, two, &[], address)?;
+        self.device = read.device;
+        Ok((read.word, read.event.then_some(steps)))
+    }
+
+    /// The steps up to the end of the running operation, counted on a copy of the sign.
+    fn steps_left(&self) -> Result<u32, Decline> {
+        let (mut device, [mut one, mut two]) = (self.device, self.banks.clone());
+        let mut steps = 0;
+        while device.operation_runs() {
+            device = step(self.geometry, device, &mut one, &mut two, &[])?.device;
+            steps += 1;
+        }
+        Ok(steps)
     }
 
     /// Plays a script without SRAM; gives what is printed.

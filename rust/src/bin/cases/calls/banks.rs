@@ -8,9 +8,16 @@ use crate::outputs::Outputs;
 
 pub fn flash_read(inputs: &mut Inputs) -> Answer {
     let (sign, device) = inputs.sign()?;
-    let (banks, address) = (inputs.banks()?, inputs.number()?);
-    let word = yohrundel::flash_read(sign, device, &banks.one, &banks.two, address)?;
-    Ok(Outputs::accepted().number(word))
+    let before = inputs.banks()?;
+    let (sram, address) = (inputs.words()?, inputs.number()?);
+    let mut after = before.clone();
+    let (one, two) = (&mut after.one, &mut after.two);
+    let read = yohrundel::flash_read(sign, device, one, two, &sram, address)?;
+    Ok(Outputs::accepted()
+        .number(read.word)
+        .number(read.event)
+        .device(&read.device)
+        .bank_changes(&before, &after))
 }
 
 /// The number of the bank that is handed back. It is the lent one, which is told by where it stands: so banks that are equal word for word

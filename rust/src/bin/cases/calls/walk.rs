@@ -119,7 +119,9 @@ impl Sign {
                 Ok((0, false))
             }
             Move::FlashRead { address } => {
-                Ok((flash_read(geometry, device, one, two, address)?, false))
+                let read = flash_read(geometry, device, one, two, &self.sram, address)?;
+                self.device = read.device;
+                Ok((read.word, read.event))
             }
         }
     }
