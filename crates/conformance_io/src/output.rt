@@ -61,7 +61,9 @@ pub fn put_next(out: &mut [u8], used: usize, number: u64) -> usize
     put_number(out, blank, number)
 }
 
-pub fn wide(number: u32) -> u64 {
+pub fn wide(number: u32) -> u64
+    ensures { λ r. ⌜ r ≡ number ⌝ }
+{
     number as u64
 }
 

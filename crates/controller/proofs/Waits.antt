@@ -347,7 +347,8 @@ kept g s sram address short waits =
 
     read : Bool → Bool → Reading
     read a f =
-        pick a (let t = pick f (stepped s false) (waitedOf g s sram) in reading (after Decline.Accepted (t .state) (t .event)) (wordReadOf g (t .state) address))
+        pick a
+        (let t = pick f (stepped s false) (waitedOf g s sram) in reading (after Decline.Accepted (t .state) (t .event)) (wordReadOf g (t .state) address))
         (reading (after (plainOf g s address) s false) 0)
 
     go : (a f : Bool) → acceptedOf (plainOf g s address) ≡ a → (a && not f) ≡ false

@@ -1,19 +1,17 @@
 -- The first of some steps, and then the others; when a read waits. Assumes nothing.
 use mathlib.Core.Path.{_≡_, refl}
-use mathlib.Core.Bool.{Bool, true, false, not}
+use mathlib.Core.Bool.{Bool, true, false}
 use mathlib.Core.List.{List}
 use Prim.Native.Nat.{ℕ, zero, suc, _-_, _<_}
 use native.Mathlib.Omega.{arith}
-use lib.Dec.{eqb}
 use Rattle.words.specs.Word.{pick}
 use Rattle.words.proofs.BitLaws.{true-not-false}
 use Rattle.geometry.specs.declared.banks.Geometry.{Geometry}
 use Rattle.device.specs.declared.record.Device.{Device}
-use Rattle.device.specs.Record.{running, opOf}
-use Rattle.flash.specs.Effect.{stepLocationOf}
+use Rattle.device.specs.Record.{running}
 use Rattle.device.specs.State.{State, After}
 use Rattle.flash.specs.Step.{stepOf}
-use Rattle.reads.specs.Read.{secondAtOf, same, freeOf, Stepped, stepped, stepsOf}
+use Rattle.reads.specs.Read.{freeOf, Stepped, stepped, stepsOf}
 
 -- after a step that left this: the steps that are left, or none where WR is 0
 abbrev pub onOf : Geometry → List ℕ → ℕ → After → Stepped
@@ -27,8 +25,8 @@ next-step g sram (suc n) s h = let e : suc n - 1 ≡ n = omega arith in rw e
 -- a bank that is not free is worked on
 pub worked-on : (g : Geometry) (d : Device) (second : Bool) → freeOf g d second ≡ false → running d ≡ true
 unfolding freeOf
-worked-on g d second = go (running d)
+worked-on g d second = go (running d) _
   where
-    go : (t : Bool) → pick t (pick (eqb (opOf d) 7) false (not (same (secondAtOf d (stepLocationOf g d)) second))) true ≡ false → t ≡ true
-    go true h = refl
-    go false h = true-not-false h
+    go : (t free : Bool) → pick t free true ≡ false → t ≡ true
+    go true free h = refl
+    go false free h = true-not-false h

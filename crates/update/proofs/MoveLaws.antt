@@ -97,7 +97,9 @@ module _ (u : Fixed) where
           record {
             below = few (phase-place u d (stands .new) (p .place) (stepping c));
             action = ap (actionAt u) (c .here) ∙ step-action u (c .block) (c .within .has) (c .count) (c .few);
-            ready = rw (ap (λ (s : State). s .device) (stands .state) ∙ c .device) (block-ready (c .block) (c .first) (c .count) (c .within .begins) (omega (arith, c .few)));
+            ready =
+                let same = ap (λ (s : State). s .device) (stands .state) ∙ c .device in
+                rw same (block-ready (c .block) (c .first) (c .count) (c .within .begins) (omega (arith, c .few)));
           }
         where
           few : (p .place < totalOf g) ⊎ Finished u d (stands .new) (p .place) → p .place < totalOf g

@@ -53,7 +53,8 @@ module _ (g : Geometry) (image : List ℕ) (s : State) (update : Update g s imag
   left B (inside sram address n) =
       let t = movesOf g image (at s 0) B .state in
       let reached = where-reached u (at s 0) begins _ (stood B) in
-      by-turns _ (pick-both (Reached u (at s 0) begins (movesOf g image (at s 0) B .place)) (waitsOf g t sram address) (steps-reach u (at s 0) begins sram n t reached) reached)
+      let inside-reached = steps-reach u (at s 0) begins sram n t reached in
+      by-turns _ (pick-both (Reached u (at s 0) begins (movesOf g image (at s 0) B .place)) (waitsOf g t sram address) inside-reached reached)
 
   claims : (A : List (List ℕ)) (B : List Move) (end : End) → placeAfter g s image A ≡ totalOf g
       → Claims g s image (afterTurns g s image A) (afterMoves g s image B end)

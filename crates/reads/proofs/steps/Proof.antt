@@ -34,7 +34,7 @@ on : (c : tie.After-step Inv-loop μ-loop) → let here = at-loop c in let a = h
     stepsOf (a .g) (a .sram .now) (here .loop .left) (state (here .loop .device) (here .loop .one) (here .loop .two))
     ≡ onOf (a .g) (a .sram .now) (here .loop .left - 1)
     (stepOf (a .g) (state (here .loop .device) (here .loop .one) (here .loop .two)) (a .sram .now))
-on c = next-step _ _ _ _ (c .before .before .before .loop-test .taken)
+on c = next-step _ _ _ _ (omega (arith, c .before .before .before .loop-test .taken))
 
 ended : tie.Need-returns Inv-loop μ-loop
 ended c =
