@@ -25,9 +25,13 @@ use Rattle.geometry.specs.Lent.{mostSram, lengthsFitOf, lentDeclineUpTo}
 use Rattle.common_declines.specs.CommonDecline.{commonDeclineOf}
 use Rattle.device.specs.declared.record.Device.{Device}
 use Rattle.device.specs.Registers.{UBWPULOCK}
-use Rattle.device.specs.Record.{running, bfswap, pfswap}
+use Rattle.device.specs.Record.{running, bfswap, pfswap, opOf}
+use Rattle.device.specs.Numbers.{bothErase}
 use Rattle.protection.specs.Protection.{pwpOf}
 use Rattle.device.specs.State.{State, bankOf}
+use Rattle.flash.specs.Effect.{stepLocationOf}
+use Rattle.flash.specs.declared.effect.Effect.{Effect}
+use Rattle.flash.proofs.EffectLaws.{effect-second}
 use Rattle.flash.specs.Step.{stepEffectOf, steppedOf, stepAnswerOf, stepOf}
 use Rattle.flash.proofs.AcceptedLaws.{step-ready}
 use Rattle.controller.proofs.WriteLaws.{by-step}
@@ -38,22 +42,24 @@ use Rattle.update.specs.declared.actions.Action.the-variants.{Step}
 use Rattle.update.specs.Actions.{actionAtOf, totalOf}
 use Rattle.update.specs.Start.{lowerWordOf, startOf}
 use Rattle.update.specs.Turn.{Turning, nextActionOf, performOf, turnDeclineOf, turnOf}
-use Rattle.update.specs.PowerFail.{Position, at, turnedOf, turnsOf, afterTurns, old, Update}
-use Rattle.reads.specs.Read.{stepsOf, waitsOf}
+use Rattle.update.specs.PowerFail.{Position, at, turnedOf, turnsOf, Words, Update}
+use Rattle.reads.specs.Read.{secondAtOf, same, freeOf, stepsOf, readAnswerOf, waitsOf}
+use Rattle.map.specs.Windows.{locateOf}
 use Rattle.update.specs.Moves.{Move, movedOf, movesOf, waitsIn, turnsAmong}
 use Rattle.update.specs.Moves.Move.{turn, read}
 use Rattle.update.proofs.TurnLaws.{performs, answers-so, every-turn}
-use Rattle.update.proofs.PlacedLaws.{lower-placed, bank-new, new-long}
-use Rattle.update.proofs.Blocks.{Fixed, Finished, Phase, Stands, Block, DeviceIn, stepsIn, runIn, newBank}
+use Rattle.update.proofs.PlacedLaws.{placed, lower-placed, bank-new, new-long, both-placed, not-both}
+use Rattle.update.proofs.Blocks.{Fixed, Finished, Phase, Stands, Losing, Block, DeviceIn, Within, opIn, stepsIn, runIn, newBank}
+use Rattle.update.proofs.Blocks.Block.{prologue, page, quad}
 use Rattle.update.proofs.Blocks.Phase.{storing, stepping, ending, finished}
 use Rattle.update.proofs.BlockActions.{step-action}
 use Rattle.update.proofs.BlockStores.{block-rests}
-use Rattle.update.proofs.BlockSteps.{block-codes, loaded-free}
+use Rattle.update.proofs.BlockSteps.{block-codes, block-writes, loaded-free}
 use Rattle.update.proofs.PhaseLaws.{actionAt, phase-place}
 use Rattle.update.proofs.StandsLaws.{stands-turns, stands-answers, stands-action}
 use Rattle.update.proofs.CutLaws.{Outcome, whole-or-losing}
 use Rattle.update.proofs.StartLaws.{CanStart, accepted-again, declined-whole}
-use Rattle.update.proofs.PowerFail.{new-wins}
+use Rattle.update.proofs.PowerFail.{new-wins, kept}
 use Rattle.update.proofs.WordLaws.{chosenOf}
 
 turns-append : (g : Geometry) (image : List ℕ) (p : Position) (first other : List (List ℕ))
@@ -62,7 +68,7 @@ turns-append g image p [] other = refl
 turns-append g image p (sram ∷ first) other = turns-append g image (turnedOf g image p sram) first other
 
 module _ (u : Fixed) where
-  open Fixed u using (g, image, b, old, listed, image-long)
+  open Fixed u using (g, image, b, old, listed, image-long, image-words, old-words)
 
   -- ---- while an operation runs
   -- what a start asks of the device beside rest, and what no step changes
@@ -77,11 +83,25 @@ module _ (u : Fixed) where
     pub below : p .place < totalOf g
     pub action : actionAt u (p .place) ≡ Step
     pub ready : Ready (p .state .device)
+    -- it lies in the new bank, and the operation does not erase both
+    pub target : secondAtOf (p .state .device) (stepLocationOf g (p .state .device)) ≡ not b
+    pub one-bank : eqb (opOf (p .state .device)) bothErase ≡ false
 
   block-ready : (k : Block) (first : Device) (n : ℕ) → DeviceIn u k first → 0 < stepsIn u k → Ready (runIn u k first n)
   block-ready k first n begins some =
       let (free, lock, reach, four) = loaded-free u k first begins some in
       record { boot = block-codes u k .boot; program = block-codes u k .program; lock = lock; reach = reach }
+
+  erases-one : (k : Block) → eqb (opIn u k) bothErase ≡ false
+  erases-one prologue = refl
+  erases-one (page i) = refl
+  erases-one (quad i) = refl
+
+  block-target : (k : Block) (first : Device) (n : ℕ) (new : List ℕ) → Within u k first n new → n < stepsIn u k
+      → let d = runIn u k first n in secondAtOf d (stepLocationOf g d) ≡ not b
+  block-target k first n new within few =
+      let s = placed b (runIn u k first n) old new in
+      sym (effect-second g s []) ∙ ap (λ (e : Effect). e .write .second) (block-writes u k first n new within few [])
 
   pub running-steps : (p : Position) → Stands u p → running (p .state .device) ≡ true → Steps p
   running-steps p stands on = go (stands .phase) (ap (λ (s : State). running (s .device)) (sym (stands .state)) ∙ on)
@@ -97,16 +117,41 @@ module _ (u : Fixed) where
           record {
             below = few (phase-place u d (stands .new) (p .place) (stepping c));
             action = ap (actionAt u) (c .here) ∙ step-action u (c .block) (c .within .has) (c .count) (c .few);
-            ready =
-                let same = ap (λ (s : State). s .device) (stands .state) ∙ c .device in
-                rw same (block-ready (c .block) (c .first) (c .count) (c .within .begins) (omega (arith, c .few)));
+            ready = rw same (block-ready (c .block) (c .first) (c .count) (c .within .begins) (omega (arith, c .few)));
+            target = rw same (block-target (c .block) (c .first) (c .count) (stands .new) (c .within) (c .few));
+            one-bank = rw (same, block-codes u (c .block) .op-code) (erases-one (c .block));
           }
         where
+          same : p .state .device ≡ runIn u (c .block) (c .first) (c .count)
+          same = ap (λ (s : State). s .device) (stands .state) ∙ c .device
+
           few : (p .place < totalOf g) ⊎ Finished u d (stands .new) (p .place) → p .place < totalOf g
           few (inl l) = l
           few (inr f) = true-not-false (sym on ∙ f .rest .idle)
       go (ending c) on = true-not-false (sym on ∙ ap running (c .device) ∙ block-codes u (c .block) .end-idle)
       go (finished c) on = true-not-false (sym on ∙ c .rest .idle)
+
+  -- so of the accepted reads those of the new bank wait, and while no operation runs none does
+  abbrev Which : State → Bool → List ℕ → ℕ → Type 0
+  Which t on sram address =
+      waitsOf g t sram address
+      ≡ (acceptedOf (readAnswerOf g t sram address) && (on && same (secondAtOf (t .device) (locateOf g address)) (not b)))
+
+  idle-which : (t : State) (sram : List ℕ) (address : ℕ) → running (t .device) ≡ false → Which t false sram address
+  unfolding freeOf
+  idle-which t sram address off = rw off
+
+  steps-which : (p : Position) (sram : List ℕ) (address : ℕ) → running (p .state .device) ≡ true → Steps p → Which (p .state) true sram address
+  unfolding freeOf
+  steps-which p sram address on steps =
+      rw (on, steps .one-bank, steps .target)
+      (ap (λ (t : Bool). acceptedOf (readAnswerOf g (p .state) sram address) && t) (go (not b) (secondAtOf (p .state .device) (locateOf g address))))
+    where
+      go : (x y : Bool) → not (not (same x y)) ≡ same y x
+      go true true = refl
+      go true false = refl
+      go false true = refl
+      go false false = refl
 
   -- the turn of such a place with an SRAM that is not too long is the step
   step-turn : (p : Position) → Stands u p → Steps p → (sram : List ℕ) → length sram ≤ 16384
@@ -269,6 +314,15 @@ module _ (u : Fixed) where
     pub steps-reach : {least : ℕ} (sram : List ℕ) (n : ℕ) (t : State) → Reached least t → Reached least (stepsOf g sram n t .state)
     steps-reach {least} sram n t h = by-steps g sram (Reached least) (step-reaches sram) n t h
 
+    -- which reads wait where a list of moves stands
+    pub which : (p : Position) → Where p → (sram : List ℕ) (address : ℕ) → Which (p .state) (running (p .state .device)) sram address
+    which p w sram address = go (running (p .state .device)) refl w
+      where
+        go : (t : Bool) → running (p .state .device) ≡ t → Where p → Which (p .state) t sram address
+        go false off w = idle-which (p .state) sram address off
+        go true on (here srams e) = steps-which p sram address on (running-steps p (rw e at (stands-turns u start begins srams)) on)
+        go true on (past h) = true-not-false (sym on ∙ h .idle)
+
     -- a list with a read that waits ends past it
     pub waits-in-past : (p : Position) → Where p → (l : List Move) → waitsIn g image p l ≡ true → Past (movesOf g image p l)
     waits-in-past p w [] h = true-not-false (sym h)
@@ -308,9 +362,18 @@ module _ (u : Fixed) where
             ap (λ (r : Position). movesOf g image r l) same
             ∙ rest (ap (λ (r : Position). movesOf g image r l .place) (sym same) ∙ done)
 
-    -- ---- the way out of it: the same start is accepted, or declined 10 where the new bank is whole
-    pub past-starts : (p : Position) → Past p → (acceptedOf (startOf g (p .state) image .decline) ≡ true)
-        ⊎ ((startOf g (p .state) image .decline ≡ Decline.Sequence) × (bankOf (p .state) (not b) ≡ newBank u))
+    -- the old bank is as it was
+    pub past-kept : (p : Position) → Past p → bankOf (p .state) b ≡ old
+    past-kept p h = kept u (at (p .state) (h .kept .0 .place)) (stands p h)
+
+    -- ---- the way out of it: the same start is an update again, or declined 10 where the new bank is whole
+    abbrev Whole : State → Type 0
+    Whole t = bankOf t (not b) ≡ newBank u
+
+    abbrev pub Again : State → Type 0
+    Again t = (Update g t image × (Whole t → ⊥)) ⊎ ((startOf g t image .decline ≡ Decline.Sequence) × Whole t)
+
+    pub past-starts : (p : Position) → Past p → Again (p .state)
     past-starts p h = go (outcome (there .phase) (ap (λ (s : State). running (s .device)) (sym (there .state)) ∙ h .idle))
       where
         there : Stands u (at (p .state) (h .kept .0 .place))
@@ -349,13 +412,24 @@ module _ (u : Fixed) where
               reach = ready .reach;
             }
 
-        go : Outcome u new → (acceptedOf (startOf g (p .state) image .decline) ≡ true)
-            ⊎ ((startOf g (p .state) image .decline ≡ Decline.Sequence) × (bankOf (p .state) (not b) ≡ newBank u))
-        go (inl losing) = inl (rw (there .state) (accepted-again u d new long losing can))
-        go (inr whole) =
-            inr (
-              rw (there .state)
-                  (declined-whole u d new long
-                  (ap (λ (l : List ℕ). chosenOf b (wordAt old (sequenceIndexOf g)) (wordAt l (sequenceIndexOf g))) whole ∙ new-wins u) can),
-              ap (λ (s : State). bankOf s (not b)) (there .state) ∙ bank-new b d old new ∙ whole,
-            )
+        wins : new ≡ newBank u → chosenOf b (wordAt old (sequenceIndexOf g)) (wordAt new (sequenceIndexOf g)) ≡ not b
+        wins whole = ap (λ (l : List ℕ). chosenOf b (wordAt old (sequenceIndexOf g)) (wordAt l (sequenceIndexOf g))) whole ∙ new-wins u
+
+        new-there : bankOf (p .state) (not b) ≡ new
+        new-there = ap (λ (s : State). bankOf s (not b)) (there .state) ∙ bank-new b d old new
+
+        again : Losing u new → Update g (p .state) image
+        again losing =
+            let (one, two) = both-placed Words b old new old-words (losing .words) in
+            rw (there .state)
+            (record {
+              accepted = accepted-again u d new long losing can;
+              one-words = one;
+              two-words = two;
+              new-words = image-words;
+              quad = there .quad;
+            })
+
+        go : Outcome u new → Again (p .state)
+        go (inl losing) = inl (again losing, λ whole. not-both b (sym (losing .loses .chosen) ∙ wins (sym new-there ∙ whole)))
+        go (inr whole) = inr (rw (there .state) (declined-whole u d new long (wins whole) can), new-there ∙ whole)

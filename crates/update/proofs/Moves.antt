@@ -1,7 +1,7 @@
 -- Moves leave what turns leave, so what power-fail safety says of turns holds of them. Assumes nothing.
 use mathlib.Core.Path.{_≡_, refl, sym, ap, _∙_}
-use mathlib.Core.Bool.{Bool, true, false, not}
-use mathlib.Core.Logic.{_⊎_}
+use mathlib.Core.Bool.{Bool, true, false, not, _&&_}
+use mathlib.Core.Logic.{_⊎_, inl, inr}
 use mathlib.Core.List.{List, [], _∷_}
 use lib.ListN.{replicate}
 use Prim.Native.Nat.{ℕ, _≤_}
@@ -11,7 +11,9 @@ use Rattle.geometry.specs.declared.banks.Geometry.{Geometry}
 use Rattle.words.specs.declared.decline.Decline.{Decline}
 use Rattle.words.specs.Decline.{acceptedOf}
 use Rattle.device.specs.State.{State, bankOf}
-use Rattle.reads.specs.Read.{remainingOf, waitsOf, flashReadOf}
+use Rattle.map.specs.Windows.{locateOf}
+use Rattle.device.specs.Record.{running}
+use Rattle.reads.specs.Read.{secondAtOf, same, remainingOf, readAnswerOf, waitsOf, flashReadOf}
 use Rattle.controller.specs.Controller.{runOf, Keeps}
 use Rattle.controller.specs.Controller.Operation.{step}
 use Rattle.controller.proofs.KeepLaws.{same-keeps, steps-keep}
@@ -19,15 +21,16 @@ use Rattle.update.specs.Actions.{totalOf}
 use Rattle.update.specs.PowerFail.{Position, at, turnedOf, turnsOf, afterTurns, placeAfter, old, newBankOf, Update, Claims}
 use Rattle.update.specs.Start.{startOf}
 use Rattle.update.specs.Moves.{Move, End, movedOf, movesOf, waitsIn, turnsAmong, turnMoves, endStateOf, afterMoves, ByTurns, Declined, MovesFail}
+use Rattle.update.specs.Moves.{StartsAgain}
 use Rattle.update.specs.Moves.Move.{turn, read}
 use Rattle.update.specs.Moves.End.{whole, inside}
 use Rattle.words.proofs.BitLaws.{true-not-false}
 use Rattle.controller.proofs.WaitLaws.{read-same, waits-runs, steps-run, read-steps}
 use Rattle.update.proofs.Blocks.{Fixed, Stands}
 use Rattle.update.proofs.StartLaws.{startFixed, start-stands}
-use Rattle.update.proofs.PowerFail.{power-fail}
+use Rattle.update.proofs.PowerFail.{same-end, power-fail}
 use Rattle.update.proofs.MoveLaws.{Reached, Where, Past, moves-where, where-reached, steps-reach, past-stays, declines, moves-total, waits-past}
-use Rattle.update.proofs.MoveLaws.{past-starts, waits-in-past}
+use Rattle.update.proofs.MoveLaws.{Again, past-starts, past-kept, waits-in-past, which}
 use Rattle.update.proofs.MoveLaws.Where.{here, past}
 
 module _ (g : Geometry) (image : List ℕ) (s : State) (update : Update g s image) where
@@ -85,12 +88,39 @@ module _ (g : Geometry) (image : List ℕ) (s : State) (update : Update g s imag
       waitsOf g (p .state) sram address ≡ true → Declined g image (movedOf g image p (read sram address))
   waited B sram address waits = declined _ (leads-past B sram address waits)
 
+  which-wait : (B : List Move) (sram : List ℕ) (address : ℕ) → let t = movesOf g image (at s 0) B .state in
+      waitsOf g t sram address
+      ≡ (acceptedOf (readAnswerOf g t sram address) && (running (t .device) && same (secondAtOf (t .device) (locateOf g address)) (not (old s))))
+  which-wait B sram address = which u (at s 0) begins _ (stood B) sram address
+
   start-again : (B : List Move) (sram : List ℕ) (address : ℕ) → let p = movesOf g image (at s 0) B in
       waitsOf g (p .state) sram address ≡ true
       → let t = movedOf g image p (read sram address) .state in
-      (acceptedOf (startOf g t image .decline) ≡ true)
+      (StartsAgain g s image t × (bankOf t (not (old s)) ≡ newBankOf g s image → ⊥))
       ⊎ ((startOf g t image .decline ≡ Decline.Sequence) × (bankOf t (not (old s)) ≡ newBankOf g s image))
-  start-again B sram address waits = past-starts u (at s 0) begins _ (leads-past B sram address waits)
+  start-again B sram address waits = go (past-starts u (at s 0) begins q there)
+    where
+      q : Position
+      q = movedOf g image (movesOf g image (at s 0) B) (read sram address)
+
+      there : Past u (at s 0) begins q
+      there = leads-past B sram address waits
+
+      go : Again u (at s 0) begins (q .state)
+          → (StartsAgain g s image (q .state) × (bankOf (q .state) (not (old s)) ≡ newBankOf g s image → ⊥))
+          ⊎ ((startOf g (q .state) image .decline ≡ Decline.Sequence) × (bankOf (q .state) (not (old s)) ≡ newBankOf g s image))
+      go (inl (again, part)) =
+          let boot = there .kept .1 .boot in
+          let kept-old = past-kept u (at s 0) begins q there in
+          inl (
+            record {
+              update = again;
+              same-old = (boot, kept-old);
+              same-end = λ A C done end. same-end g s image update A done (q .state) again boot kept-old C end;
+            },
+            part,
+          )
+      go (inr declined-ten) = inr declined-ten
 
 unwaited : (g : Geometry) (image : List ℕ) (p : Position) (B : List Move) → waitsIn g image p B ≡ false
     → movesOf g image p B ≡ turnsOf g image p (turnsAmong B)
@@ -133,6 +163,7 @@ moves-fail g image =
       unwaited = unwaited g image;
       stuck = stuck g image;
       waited = waited g image;
+      which = which-wait g image;
       start-again = start-again g image;
       inside-steps = inside-steps g;
       inside-all = inside-all g;

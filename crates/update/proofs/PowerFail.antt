@@ -137,7 +137,7 @@ module _ (u : Fixed) where
 
   -- ---- where the invariant holds
   module _ (p : Position) (stands : Stands u p) where
-    kept : bankOf (p .state) b ≡ old
+    pub kept : bankOf (p .state) b ≡ old
     kept = ap (λ (s : State). bankOf s b) (stands .state) ∙ bank-old b (stands .device) old (stands .new)
 
     can : possibleOf g (stands .device) ≡ true
@@ -187,18 +187,24 @@ module _ (g : Geometry) (s : State) (image : List ℕ) (update : Update g s imag
   stands : (srams : List (List ℕ)) → Stands u (turnsOf g image (at s 0) srams)
   stands = stands-turns u (at s 0) (start-stands g s image update (old s) refl)
 
-  module _ (A B : List (List ℕ)) (reached : placeAfter g s image A ≡ totalOf g) where
+  module _ (A : List (List ℕ)) (reached : placeAfter g s image A ≡ totalOf g) where
     abbrev a : State
     a = afterTurns g s image A
-
-    abbrev b : State
-    b = afterTurns g s image B
 
     new-left : bankOf a (not (old s)) ≡ newBankOf g s image
     new-left = done-bank u (turnsOf g image (at s 0) A) (stands A) reached
 
     kept-a : OldKept s a
     kept-a = kept u (turnsOf g image (at s 0) A) (stands A)
+
+    -- an update of the same image from a state with the same old bank ends as A did: the new sequence number follows the same one
+    pub same-end : (t : State) (again : Update g t image) → old t ≡ old s → bankOf t (old s) ≡ bankOf s (old s) → (C : List (List ℕ))
+        → placeAfter g t image C ≡ totalOf g → SameBanks a (afterTurns g t image C)
+    same-end t again boot same-old C end =
+        let v = startFixed g t image again (old s) boot in
+        let q = turnsOf g image (at t 0) C in
+        let there = stands-turns v (at t 0) (start-stands g t image again (old s) boot) C in
+        same-placed (old s) a (afterTurns g t image C) (kept v q there ∙ same-old ∙ sym kept-a) (rw same-old at (done-bank v q there end) ∙ sym new-left)
 
     stays : (c : Cut) → SameBanks a (resetBy g a c .state)
     stays c = reset-idle g a c (done-idle u (turnsOf g image (at s 0) A) (stands A) reached)
@@ -218,52 +224,49 @@ module _ (g : Geometry) (s : State) (image : List ℕ) (update : Update g s imag
           either true (one, two) = one
           either false (one, two) = two
 
-    module _ (c : Cut) (restart : Restarts g b c) where
-      can-b : possibleOf g (stands B .device) ≡ true
-      can-b = can u (turnsOf g image (at s 0) B) (stands B)
+    module _ (B : List (List ℕ)) where
+      abbrev b : State
+      b = afterTurns g s image B
 
-      after-b : AfterCut u (stands B .device) (c .kind) (resetBy g b c .state)
-      after-b = leaves u (turnsOf g image (at s 0) B) (stands B) c (restart .reset)
+      module _ (c : Cut) (restart : Restarts g b c) where
+        can-b : possibleOf g (stands B .device) ≡ true
+        can-b = can u (turnsOf g image (at s 0) B) (stands B)
 
-      old-or-new : Runs (restarted g b c) (old s) (bankOf s (old s)) ⊎ Runs (restarted g b c) (not (old s)) (bankOf a (not (old s)))
-      old-or-new = rw new-left (one-runs u (stands B .device) can-b (c .kind) (resetBy g b c .state) after-b)
+        after-b : AfterCut u (stands B .device) (c .kind) (resetBy g b c .state)
+        after-b = leaves u (turnsOf g image (at s 0) B) (stands B) c (restart .reset)
 
-      module _ (runs : Lower (restarted g b c) (old s)) where
-        again : Update g (restarted g b c) image
-        again = update-again u (stands B .device) can-b (c .kind) (resetBy g b c .state) after-b (stands B .quad) runs
+        old-or-new : Runs (restarted g b c) (old s) (bankOf s (old s)) ⊎ Runs (restarted g b c) (not (old s)) (bankOf a (not (old s)))
+        old-or-new = rw new-left (one-runs u (stands B .device) can-b (c .kind) (resetBy g b c .state) after-b)
 
-        -- it ends as A did: its old bank is A's, and so is the new sequence number
-        same-end : (C : List (List ℕ)) → placeAfter g (restarted g b c) image C ≡ totalOf g → SameBanks a (afterTurns g (restarted g b c) image C)
-        same-end C end =
-            let v = startFixed g (restarted g b c) image again (old s) (runs .0) in
-            let there = stands-turns v (at (restarted g b c) 0) (start-stands g (restarted g b c) image again (old s) (runs .0)) C in
-            let q = turnsOf g image (at (restarted g b c) 0) C in
-            let same-old : bankOf (restarted g b c) (old s) ≡ bankOf s (old s) = old-bank u (stands B .device) can-b (c .kind) (resetBy g b c .state) after-b in
-            same-placed (old s) a (afterTurns g (restarted g b c) image C) (kept v q there ∙ same-old ∙ sym kept-a)
-            (rw same-old at (done-bank v q there end) ∙ sym new-left)
+        module _ (runs : Lower (restarted g b c) (old s)) where
+          again : Update g (restarted g b c) image
+          again = update-again u (stands B .device) can-b (c .kind) (resetBy g b c .state) after-b (stands B .quad) runs
 
-    all-claims : Claims g s image a b
-    all-claims =
-        record {
-          new-runs = new-runs;
-          new-left = new-left;
-          banks-stay = λ c. (stays c, stays c);
-          old-or-new = old-or-new;
-          old-kept = (kept-a, kept u (turnsOf g image (at s 0) B) (stands B));
-          old-kept-cut = λ c. let same = kept-reset u (turnsOf g image (at s 0) B) (stands B) c in (same, same);
-          again = λ c restart runs. (again c restart runs, same-end c restart runs);
-          restarts =
-              λ c short kind. (
-                restarts u (turnsOf g image (at s 0) A) (stands A) c short kind,
-                restarts u (turnsOf g image (at s 0) B) (stands B) c short kind,
-              );
-        }
+          ends : (C : List (List ℕ)) → placeAfter g (restarted g b c) image C ≡ totalOf g → SameBanks a (afterTurns g (restarted g b c) image C)
+          ends = same-end (restarted g b c) again (runs .0) (old-bank u (stands B .device) can-b (c .kind) (resetBy g b c .state) after-b)
+
+      all-claims : Claims g s image a b
+      all-claims =
+          record {
+            new-runs = new-runs;
+            new-left = new-left;
+            banks-stay = λ c. (stays c, stays c);
+            old-or-new = old-or-new;
+            old-kept = (kept-a, kept u (turnsOf g image (at s 0) B) (stands B));
+            old-kept-cut = λ c. let same = kept-reset u (turnsOf g image (at s 0) B) (stands B) c in (same, same);
+            again = λ c restart runs. (again c restart runs, ends c restart runs);
+            restarts =
+                λ c short kind. (
+                  restarts u (turnsOf g image (at s 0) A) (stands A) c short kind,
+                  restarts u (turnsOf g image (at s 0) B) (stands B) c short kind,
+                );
+          }
 
 pub power-fail : (g : Geometry) (image : List ℕ) → PowerFail g image
 power-fail g image =
     record {
       starts = λ s update. (start-place g s image, start-total g s image update (old s) refl);
-      claims = λ s update A B reached. all-claims g s image update A B reached;
+      claims = λ s update A B reached. all-claims g s image update A reached B;
       answers = λ s update srams sram short. stands-answers (u g s image update) (turnsOf g image (at s 0) srams) (stands g s image update srams) sram short;
       within = λ s update srams. stands-within (u g s image update) (turnsOf g image (at s 0) srams) (stands g s image update srams);
       reaches =

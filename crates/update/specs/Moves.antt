@@ -1,7 +1,7 @@
 -- W-207 and demand 3: lists of turns with flash reads between them, also ended inside a read that waits. Assumes nothing.
 use Prim.Native.Nat.{ℕ, _≤_, _<_}
 use mathlib.Core.Path.{_≡_}
-use mathlib.Core.Bool.{Bool, true, false, not}
+use mathlib.Core.Bool.{Bool, true, false, not, _&&_}
 use mathlib.Core.Logic.{_⊎_}
 use mathlib.Core.List.{List, [], _∷_}
 use lib.Dec.{leb}
@@ -10,13 +10,15 @@ use Rattle.words.specs.Word.{pick}
 use Rattle.words.specs.declared.decline.Decline.{Decline}
 use Rattle.geometry.specs.declared.banks.Geometry.{Geometry}
 use Rattle.geometry.specs.Lent.{mostSram}
+use Rattle.map.specs.Windows.{locateOf}
+use Rattle.device.specs.Record.{running}
 use Rattle.device.specs.State.{State, bankOf}
-use Rattle.reads.specs.Read.{remainingOf, waitsOf, stepsOf, flashReadOf}
+use Rattle.reads.specs.Read.{secondAtOf, same, remainingOf, readAnswerOf, waitsOf, stepsOf, flashReadOf}
 use Rattle.controller.specs.Controller.{runOf, Keeps}
 use Rattle.controller.specs.Controller.Operation.{step}
 use Rattle.update.specs.Actions.{totalOf}
 use Rattle.update.specs.Turn.{turnOf}
-use Rattle.update.specs.PowerFail.{Position, at, turnedOf, turnsOf, afterTurns, placeAfter, old, newBankOf, Update, Claims}
+use Rattle.update.specs.PowerFail.{Position, at, turnedOf, turnsOf, afterTurns, placeAfter, old, newBankOf, SameBanks, OldKept, Update, Claims}
 use Rattle.update.specs.Start.{startOf}
 use Rattle.words.specs.Decline.{acceptedOf}
 
@@ -78,6 +80,13 @@ pub record Declined (g : Geometry) (image : List ℕ) (p : Position) : Type 0 wh
   pub turns : (sram : List ℕ) → turnOf g (p .state) image sram (p .place) .decline ≡ pick (leb (length sram) mostSram) Decline.Idle Decline.Length
   pub stays : (moves : List Move) → movesOf g image p moves ≡ p
 
+-- the same start, from t and without a reset: an update again, of the same old bank, which ends as the first one would have
+pub record StartsAgain (g : Geometry) (s : State) (image : List ℕ) (t : State) : Type 0 where
+  pub update : Update g t image
+  pub same-old : (old t ≡ old s) × OldKept s t
+  pub same-end : (A C : List (List ℕ)) → placeAfter g s image A ≡ totalOf g → placeAfter g t image C ≡ totalOf g
+      → SameBanks (afterTurns g s image A) (afterTurns g t image C)
+
 pub record MovesFail (g : Geometry) (image : List ℕ) : Type 0 where
   -- every list of moves leaves the device and the banks that some list of turns leaves, also one ended inside a read: those of the list's
   -- place or a later one
@@ -95,11 +104,15 @@ pub record MovesFail (g : Geometry) (image : List ℕ) : Type 0 where
   -- after a read that waits the update goes no further
   pub waited : (s : State) → Update g s image → (B : List Move) (sram : List ℕ) (address : ℕ) → let p = movesOf g image (at s 0) B in
       waitsOf g (p .state) sram address ≡ true → Declined g image (movedOf g image p (read sram address))
-  -- and how a user leaves that: without a reset the same start is accepted, or declined 10 where the new bank is already whole
+  -- which reads those are: while an operation of the update runs, the accepted ones of the new bank
+  pub which : (s : State) → Update g s image → (B : List Move) (sram : List ℕ) (address : ℕ) → let t = movesOf g image (at s 0) B .state in
+      waitsOf g t sram address
+      ≡ (acceptedOf (readAnswerOf g t sram address) && (running (t .device) && same (secondAtOf (t .device) (locateOf g address)) (not (old s))))
+  -- and how a user leaves that: without a reset the same start is accepted, or declined 10 exactly where the new bank is already whole
   pub start-again : (s : State) → Update g s image → (B : List Move) (sram : List ℕ) (address : ℕ) → let p = movesOf g image (at s 0) B in
       waitsOf g (p .state) sram address ≡ true
       → let t = movedOf g image p (read sram address) .state in
-      (acceptedOf (startOf g t image .decline) ≡ true)
+      (StartsAgain g s image t × (bankOf t (not (old s)) ≡ newBankOf g s image → ⊥))
       ⊎ ((startOf g t image .decline ≡ Decline.Sequence) × (bankOf t (not (old s)) ≡ newBankOf g s image))
   -- "each step inside one is a place where the supply may fail": after n steps of a read the state is what n single steps leave, and after
   -- as many as remain it is what the read leaves
