@@ -55,28 +55,7 @@ fn count_all(line: &[u8], at: usize, one: &[u32], two: &[u32], spare: &mut [u32]
     count + count_changes(two, spare)
 }
 
-// Each change of both banks, whose lists are read again in the same way.
-fn put_all(
-    out: &mut [u8],
-    used: usize,
-    line: &[u8],
-    at: usize,
-    one: &[u32],
-    two: &[u32],
-    spare: &mut [u32],
-) -> usize
-    requires { ⌜ Used (now out) used ⌝ }
-    requires { ⌜ Room (now one) (now spare) ⌝ }
-    requires { ⌜ Room (now two) (now spare) ⌝ }
-    ensures { λ r. ⌜ Used (now (out .exit)) r ⌝ }
-{
-    let first = take_list(line, at, spare, spare.len());
-    let end = put_bank(out, used, 1, one, spare);
-    take_list(line, first.next, spare, spare.len());
-    put_bank(out, end, 2, two, spare)
-}
-
-// How many words changed in both banks, and each change.
+// How many words changed in both banks, and each change. The banks' lists are read again in the same way.
 fn put_changes(
     out: &mut [u8],
     used: usize,
@@ -92,8 +71,11 @@ fn put_changes(
     ensures { λ r. ⌜ Used (now (out .exit)) r ⌝ }
 {
     let count = count_all(line, at, one, two, spare);
-    let end = put_next(out, used, count as u64);
-    put_all(out, end, line, at, one, two, spare)
+    let counted = put_next(out, used, count as u64);
+    let first = take_list(line, at, spare, spare.len());
+    let end = put_bank(out, counted, 1, one, spare);
+    take_list(line, first.next, spare, spare.len());
+    put_bank(out, end, 2, two, spare)
 }
 
 // What a call gives, on a line of its own: its numbers, and where they are followed by it what changed in the banks since
