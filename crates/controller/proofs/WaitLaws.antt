@@ -3,13 +3,13 @@
 use mathlib.Core.Path.{_≡_, refl, sym, ap, _∙_}
 use mathlib.Core.Bool.{Bool, true, false, not, _&&_, and-false}
 use mathlib.Core.List.{List, [], _∷_}
-use Prim.Native.Nat.{ℕ, zero, suc, _+_, _-_, _≤_, _<_}
+use Prim.Native.Nat.{ℕ, zero, suc, _+_, _-_, _≤_}
 use native.Mathlib.Omega.{arith}
 use lib.Dec.{eqb}
 use lib.ListN.{length, replicate}
 use Rattle.words.specs.Word.{pick, bit, hasOf, clearOf}
 use Rattle.words.specs.Decline.{acceptedOf}
-use Rattle.words.proofs.PickLaws.{pick-both, and-both}
+use Rattle.words.proofs.PickLaws.{and-both}
 use Rattle.words.proofs.BitLaws.{true-not-false, clear-bit, has-bit}
 use Rattle.geometry.specs.declared.banks.Geometry.{Geometry}
 use Rattle.geometry.specs.Banks.{inRangeOf}
@@ -23,8 +23,8 @@ use Rattle.protection.specs.Protection.{pwpOf}
 use Rattle.words.specs.declared.decline.Decline.{Decline}
 use Rattle.device.specs.State.{State, after}
 use Rattle.nvmop.specs.Operation.{lengthOf}
-use Rattle.flash.specs.Effect.{stepLocationOf, effectOf}
-use Rattle.flash.specs.Step.{endedOf, stepDeclineOf, stepAnswerOf, stepOf}
+use Rattle.flash.specs.Effect.{effectOf}
+use Rattle.flash.specs.Step.{advanced, endedOf, advanceOf, stepDeclineOf, stepAnswerOf, stepOf}
 use Rattle.flash.proofs.AcceptedLaws.{runs}
 use Rattle.common_declines.proofs.CommonDeclineLaws.{opens}
 use Rattle.reads.specs.Read.{secondAtOf, freeOf, stepped, stepsOf, remainingOf, waitedOf, readAnswerOf, waitsOf, wordReadOf}
@@ -38,7 +38,7 @@ use Rattle.controller.proofs.WriteLaws.{by-step, by-advance}
 use Rattle.controller.specs.Controller.Operation.{step}
 use Rattle.controller.proofs.KeepLaws.{cleared-bit}
 use Rattle.controller.proofs.RunLaws.{run-sound}
-use borrow.Author.Tests.{not-true}
+use borrow.Author.Tests.{not-true, eqb-true}
 
 -- ---- what a step leaves of the device
 module _ (g : Geometry) (s : State) (sram : List ℕ) where
@@ -98,6 +98,29 @@ ended-idle d mask on =
     ∙ ap (λ (t : Bool). bit 15 (d .nvmcon .0) && not t) on
     ∙ and-false (bit 15 (d .nvmcon .0))
 
+-- while it goes on at most one step less is left
+pub one-less : (g : Geometry) (s : State) (sram : List ℕ) (n : ℕ) → suc n ≤ remainingOf g (s .device)
+    → let e = stepOf g s sram .state .device in running e ≡ true → n ≤ remainingOf g e
+one-less g s sram n some =
+    by-left g s sram (λ e. running e ≡ true → n ≤ remainingOf g e) (λ runs. true-not-false (sym runs ∙ ended-idle (s .device) WR refl))
+    (λ runs. true-not-false (sym runs ∙ ended-idle (s .device) (WR + WRERR) refl)) (λ runs. omega (arith, some)) (λ runs. omega (arith, some))
+
+-- and where it does not abort only the last step ends it
+pub last-ends : (g : Geometry) (s : State) (sram : List ℕ) → acceptedOf (stepAnswerOf g s sram) ≡ true → running (s .device) ≡ true
+    → effectOf g s sram .aborts ≡ false → running (stepOf g s sram .state .device) ≡ false → remainingOf g (s .device) ≤ 1
+unfolding stepOf advanceOf
+last-ends g s sram ok on none = rw (ok, none) (go (eqb (s .device .step + 1) (lengthOf g (opOf (s .device)))) refl)
+  where
+    d : Device
+    d = s .device
+
+    go : (t : Bool) → eqb (d .step + 1) (lengthOf g (opOf d)) ≡ t
+        → running (pick t (advanced (endedOf d (clearOf (d .nvmcon .0) (WR + WRERR))) true)
+        (advanced (withCon d (d .nvmcon .0) (d .keystep) (d .step + 1)) false) .device) ≡ false
+        → remainingOf g d ≤ 1
+    go true e off = omega (arith, eqb-true (d .step + 1) (lengthOf g (opOf d)) e)
+    go false e off = true-not-false (sym on ∙ off)
+
 module _ (g : Geometry) (sram : List ℕ) (listed : inRangeOf g ≡ true) (short : length sram ≤ 16384) where
   -- one step less is left
   pub fewer : (s : State) → Sound g s → running (s .device) ≡ true → (n : ℕ) → remainingOf g (s .device) ≤ suc n
@@ -146,6 +169,13 @@ pub waits-runs : (g : Geometry) (s : State) (sram : List ℕ) (address : ℕ) �
 waits-runs g s sram address waits =
     let free = freeOf g (s .device) (secondAtOf (s .device) (locateOf g address)) in
     worked-on g (s .device) _ (not-true free (and-both (acceptedOf (readAnswerOf g s sram address)) (not free) waits .1))
+
+-- with an SRAM that is not too long
+pub waits-short : (g : Geometry) (s : State) (sram : List ℕ) (address : ℕ) → waitsOf g s sram address ≡ true → length sram ≤ 16384
+waits-short g s sram address waits =
+    let free = freeOf g (s .device) (secondAtOf (s .device) (locateOf g address)) in
+    let ok = and-both (acceptedOf (readAnswerOf g s sram address)) (not free) waits .0 in
+    read-ready g (s .device) _ _ _ address ok .0 .lent .room
 
 pub idle-free : (g : Geometry) (s : State) (sram : List ℕ) (address : ℕ) → running (s .device) ≡ false → waitsOf g s sram address ≡ false
 unfolding freeOf

@@ -5,7 +5,7 @@ use mathlib.Core.Logic.{_⊎_, inl, inr}
 use mathlib.Core.List.{List, [], _∷_}
 use Prim.Native.Nat.{ℕ, zero, suc, _+_, _-_, _*_, _≤_, _<_}
 use native.Mathlib.Omega.{arith}
-use lib.Dec.{eqb, leb}
+use lib.Dec.{eqb}
 use lib.ListN.{length, replicate}
 use borrow.Author.Tests.{not-true, eqb-true, le-leb}
 use Rattle.words.specs.Word.{pick, hasOf, clearOf}
@@ -22,7 +22,7 @@ use Rattle.geometry.specs.declared.banks.Geometry.{Geometry}
 use Rattle.geometry.specs.Banks.{inRangeOf, pageWordsOf, pageQuadsOf}
 use Rattle.geometry.specs.Lent.{mostSram, lengthsFitOf, lentDeclineUpTo}
 use Rattle.geometry.proofs.SizeLaws.{in-range}
-use Rattle.map.specs.Windows.{locateOf, quadIndexOf}
+use Rattle.map.specs.Windows.{locateOf}
 use Rattle.device.specs.declared.record.Device.{Device}
 use Rattle.device.specs.declared.answer.Answer.{Answer}
 use Rattle.device.specs.Registers.{WR, WRERR}
@@ -31,16 +31,17 @@ use Rattle.device.specs.Record.{running, opOf}
 use Rattle.device.specs.State.{State, state, bankOf, after}
 use Rattle.nvmop.specs.Operation.{lengthOf}
 use Rattle.common_declines.specs.CommonDecline.{commonDeclineOf}
-use Rattle.flash.specs.Effect.{stepAtOf, stepLocationOf, effectOf}
+use Rattle.flash.specs.Effect.{stepAtOf, effectOf}
 use Rattle.flash.specs.Step.{advanced, endedOf, advanceOf, stepAnswerOf, stepOf}
 use Rattle.flash.proofs.AcceptedLaws.{runs}
 use Rattle.reads.specs.Read.{secondAtOf, freeOf, readableOf, flashReadDeclineOf, Stepped, stepped, stepsOf, remainingOf, waitedOf, readAnswerOf, waitsOf}
+use Rattle.reads.specs.Read.{readyOf}
 use Rattle.reads.specs.Read.{wordReadOf, Reading, reading, flashReadOf}
 use Rattle.reads.proofs.AcceptedLaws.{read-ready}
 use Rattle.reads.proofs.StepsLaws.{worked-on}
-use Rattle.controller.specs.Controller.{Operation, transitionOf, runOf, Sound, Outside, Keeps, stepSecondOf, stepQuadOf}
+use Rattle.controller.specs.Controller.{runOf, Sound, Outside, Keeps, stepSecondOf, stepQuadOf}
 use Rattle.controller.specs.Controller.Operation.{flashRead, step}
-use Rattle.controller.specs.Waits.{Targeted, Untouched, OffPage, LeftBySteps, Waited, Waits}
+use Rattle.controller.specs.Waits.{Untouched, OffPage, LeftBySteps, Waited, Waits}
 use Rattle.controller.proofs.WriteLaws.{by-step, by-advance, step-writes, one-quad}
 use Rattle.controller.proofs.KeepLaws.{cleared-bit, keeps}
 use Rattle.controller.proofs.RunLaws.{run-sound}
@@ -316,22 +317,43 @@ declined : (g : Geometry) (s : State) (sram : List ℕ) (address : ℕ) → acce
 unfolding flashReadOf
 declined g s sram address off = rw off
 
--- the declines that do not ask the SRAM
+-- the declines with an SRAM of this length; with none they are 01's
+abbrev declinesOf : Geometry → State → ℕ → ℕ → Decline
+declinesOf g s sram address =
+    firstOf (commonDeclineOf g (s .device) (length (s .one) ∷ length (s .two) ∷ []) sram) (pick (readableOf g address) Decline.Accepted Decline.Address)
+
 abbrev plainOf : Geometry → State → ℕ → Decline
-plainOf g s address =
-    firstOf (commonDeclineOf g (s .device) (length (s .one) ∷ length (s .two) ∷ []) 0) (pick (readableOf g address) Decline.Accepted Decline.Address)
+plainOf g s address = declinesOf g s 0 address
 
 plain-same : (g : Geometry) (s : State) (sram : List ℕ) (address : ℕ) → length sram ≤ mostSram → readAnswerOf g s sram address ≡ plainOf g s address
 unfolding flashReadDeclineOf
 plain-same g s sram address short = rw (same-declines g (s .device) (length (s .one) ∷ length (s .two) ∷ []) (length sram) short)
 
-plain-accepted : (g : Geometry) (s : State) (address : ℕ) → acceptedOf (plainOf g s address) ≡ true → plainOf g s address ≡ Decline.Accepted
-plain-accepted g s address h =
+none-declines : (g : Geometry) (s : State) (sram address : ℕ) → acceptedOf (declinesOf g s sram address) ≡ true
+    → declinesOf g s sram address ≡ Decline.Accepted
+none-declines g s sram address h =
     let lengths = length (s .one) ∷ length (s .two) ∷ [] in
-    let (common, address-ok) = neither (commonDeclineOf g (s .device) lengths 0) _ h in
-    let r = ready g (s .device) lengths 0 common in
+    let (common, address-ok) = neither (commonDeclineOf g (s .device) lengths sram) _ h in
+    let r = ready g (s .device) lengths sram common in
     let readable = held (readableOf g address) Decline.Accepted Decline.Address refl address-ok .0 in
-    rw (opens g (s .device) lengths 0 (r .lent .listed) (r .lent .banks) (r .lent .room) (r .possible), readable)
+    rw (opens g (s .device) lengths sram (r .lent .listed) (r .lent .banks) (r .lent .room) (r .possible), readable)
+
+answer : (g : Geometry) (s : State) (sram : List ℕ) (address : ℕ) → flashReadOf g s sram address .after .decline ≡ declinesOf g s (length sram) address
+unfolding flashReadOf flashReadDeclineOf
+answer g s sram address = go (acceptedOf (declinesOf g s (length sram) address)) refl
+  where
+    go : (t : Bool) → acceptedOf (declinesOf g s (length sram) address) ≡ t
+        → pick t
+        (let r = readyOf g s sram address in reading (after Decline.Accepted (r .state) (r .event)) (wordReadOf g (r .state) address))
+        (reading (after (declinesOf g s (length sram) address) s false) 0) .after .decline
+        ≡ declinesOf g s (length sram) address
+    go true on = sym (none-declines g s (length sram) address on)
+    go false off = refl
+
+word-there : (g : Geometry) (s : State) (sram : List ℕ) (address : ℕ) → acceptedOf (readAnswerOf g s sram address) ≡ true
+    → flashReadOf g s sram address .word ≡ wordReadOf g (flashReadOf g s sram address .after .state) address
+unfolding flashReadOf
+word-there g s sram address on = rw on
 
 kept : (g : Geometry) (s : State) (sram : List ℕ) (address : ℕ) → length sram ≤ mostSram → waitsOf g s sram address ≡ false
     → let r = flashReadOf g s sram address in
@@ -354,7 +376,7 @@ kept g s sram address short waits =
     go : (a f : Bool) → acceptedOf (plainOf g s address) ≡ a → (a && not f) ≡ false
         → (read a f .after .decline ≡ plainOf g s address)
         × ((read a f .after .state ≡ s) × ((read a f .after .event ≡ false) × (read a f .word ≡ pick a (wordReadOf g s address) 0)))
-    go true true e h = (sym (plain-accepted g s address e), (refl, (refl, refl)))
+    go true true e h = (sym (none-declines g s 0 address e), (refl, (refl, refl)))
     go true false e h = true-not-false h
     go false f e h = (refl, (refl, (refl, refl)))
 
@@ -362,4 +384,14 @@ read-keeps : (g : Geometry) (s : State) (sram : List ℕ) (address : ℕ) → Ke
 read-keeps g s sram address = keeps g s (flashRead sram address)
 
 pub waits : Waits
-waits = record { kept = kept; declined = declined; busy = busy; target = target; waited = waited; keeps = read-keeps }
+waits =
+    record {
+      answer = answer;
+      word = word-there;
+      kept = kept;
+      declined = declined;
+      busy = busy;
+      target = target;
+      waited = waited;
+      keeps = read-keeps;
+    }

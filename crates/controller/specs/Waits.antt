@@ -12,17 +12,17 @@ use Rattle.words.specs.Decline.{acceptedOf, firstOf}
 use Rattle.geometry.specs.declared.banks.Geometry.{Geometry}
 use Rattle.geometry.specs.Banks.{pageWordsOf, pageQuadsOf}
 use Rattle.geometry.specs.Lent.{mostSram}
-use Rattle.map.specs.Windows.{locateOf, quadIndexOf}
+use Rattle.map.specs.Windows.{locateOf, wordIndexOf, quadIndexOf, inSecondOf}
 use Rattle.device.specs.declared.record.Device.{Device}
 use Rattle.device.specs.Registers.{WRERR}
-use Rattle.device.specs.Record.{running, opOf}
+use Rattle.device.specs.Record.{running, bfswap, pfswap, opOf}
 use Rattle.device.specs.State.{State, bankOf, after}
 use Rattle.nvmop.specs.Operation.{lengthOf}
 use Rattle.common_declines.specs.CommonDecline.{commonDeclineOf}
 use Rattle.flash.specs.Effect.{stepAtOf}
 use Rattle.flash.specs.Step.{stepOf}
 use Rattle.reads.specs.Read.{secondAtOf, readableOf, remainingOf, readAnswerOf, waitsOf, wordReadOf, reading, flashReadOf}
-use Rattle.controller.specs.Controller.{Operation, runOf, AllAccepted, Outside, Keeps}
+use Rattle.controller.specs.Controller.{runOf, AllAccepted, Outside, Keeps}
 use Rattle.controller.specs.Controller.Operation.{step}
 
 -- some step of the running operation lies in the bank: "a bank that the running operation targets (NVMOP 7: both)"
@@ -77,6 +77,16 @@ pub record Waited (g : Geometry) (s : State) (sram : List ℕ) (address : ℕ) :
       → let v = n * pageWordsOf g + i in wordAt (bankOf (flashReadOf g s sram address .after .state) second) v ≡ wordAt (bankOf s second) v
 
 pub record Waits : Type 1 where
+  -- 01's declines 1, 2, 3 and 8, in their order, the SRAM's length among 2, and no other
+  pub answer : (g : Geometry) (s : State) (sram : List ℕ) (address : ℕ)
+      → flashReadOf g s sram address .after .decline
+      ≡ firstOf (commonDeclineOf g (s .device) (length (s .one) ∷ length (s .two) ∷ []) (length sram))
+      (pick (readableOf g address) Decline.Accepted Decline.Address)
+  -- "A flash read gives the word at its address there": the bank that stands at the place of the address, as the read leaves it
+  pub word : (g : Geometry) (s : State) (sram : List ℕ) (address : ℕ) → acceptedOf (readAnswerOf g s sram address) ≡ true
+      → let t = flashReadOf g s sram address .after .state in
+      let l = locateOf g address in
+      flashReadOf g s sram address .word ≡ wordAt (bankOf t (inSecondOf l (bfswap (t .device)) (pfswap (t .device)))) (wordIndexOf g l)
   -- "Reads that were answered before keep their answers and change nothing.": where one of 01's declines 1, 2, 3 and 8 applies, or its
   -- condition of 9 is false
   pub kept : (g : Geometry) (s : State) (sram : List ℕ) (address : ℕ) → length sram ≤ mostSram → waitsOf g s sram address ≡ false

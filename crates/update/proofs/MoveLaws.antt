@@ -5,16 +5,14 @@ use mathlib.Core.Path.{_≡_, refl, sym, ap, _∙_}
 use mathlib.Core.Bool.{Bool, true, false, not, _&&_}
 use mathlib.Core.List.{List, [], _∷_, _++_}
 use mathlib.Core.Logic.{_⊎_, inl, inr}
-use Prim.Native.Nat.{ℕ, zero, suc, _+_, _-_, _^_, _≤_, _<_}
-use native.Mathlib.Numerals.{add-one}
+use Prim.Native.Nat.{ℕ, zero, suc, _+_, _-_, _≤_, _<_}
 use native.Mathlib.Omega.{arith}
-use lib.Dec.{eqb, leb, ltb}
-use lib.ListN.{length}
+use lib.Dec.{eqb, leb}
+use lib.ListN.{length, replicate}
 use borrow.Author.Tests.{lt-ltb, eq-eqb}
 use Rattle.words.specs.Word.{pick, hasOf}
 use Rattle.words.specs.declared.decline.Decline.{Decline}
 use Rattle.words.specs.Decline.{acceptedOf, firstOf}
-use Rattle.words.proofs.PickLaws.{pick-both, and-both}
 use Rattle.words.proofs.BitLaws.{true-not-false}
 use Rattle.geometry.specs.declared.banks.Geometry.{Geometry}
 use Rattle.geometry.specs.Banks.{programBytesOf, bankWordsOf}
@@ -29,21 +27,22 @@ use Rattle.device.specs.Record.{running, bfswap, pfswap, opOf}
 use Rattle.device.specs.Numbers.{bothErase}
 use Rattle.protection.specs.Protection.{pwpOf}
 use Rattle.device.specs.State.{State, bankOf}
-use Rattle.flash.specs.Effect.{stepLocationOf}
+use Rattle.flash.specs.Effect.{stepLocationOf, effectOf}
 use Rattle.flash.specs.declared.effect.Effect.{Effect}
 use Rattle.flash.proofs.EffectLaws.{effect-second}
 use Rattle.flash.specs.Step.{stepEffectOf, steppedOf, stepAnswerOf, stepOf}
 use Rattle.flash.proofs.AcceptedLaws.{step-ready}
 use Rattle.controller.proofs.WriteLaws.{by-step}
 use Rattle.controller.proofs.ReadLaws.{by-steps, by-flash-read}
+use Rattle.controller.proofs.WaitLaws.{one-less, last-ends, step-accepted}
 use Rattle.controller.proofs.WaitLaws.{step-boot, step-program, step-bwp, step-pwp, read-same, read-ends, idle-free, waits-runs}
 use Rattle.update.specs.declared.actions.Action.{Action}
 use Rattle.update.specs.declared.actions.Action.the-variants.{Step}
 use Rattle.update.specs.Actions.{actionAtOf, totalOf}
 use Rattle.update.specs.Start.{lowerWordOf, startOf}
 use Rattle.update.specs.Turn.{Turning, nextActionOf, performOf, turnDeclineOf, turnOf}
-use Rattle.update.specs.PowerFail.{Position, at, turnedOf, turnsOf, Words, Update}
-use Rattle.reads.specs.Read.{secondAtOf, same, freeOf, stepsOf, readAnswerOf, waitsOf}
+use Rattle.update.specs.PowerFail.{Position, at, turnedOf, turnsOf, Cut, restarted, Restarts, Runs, Words, Update}
+use Rattle.reads.specs.Read.{secondAtOf, same, freeOf, stepped, stepsOf, remainingOf, readAnswerOf, waitsOf}
 use Rattle.map.specs.Windows.{locateOf}
 use Rattle.update.specs.Moves.{Move, movedOf, movesOf, waitsIn, turnsAmong}
 use Rattle.update.specs.Moves.Move.{turn, read}
@@ -59,7 +58,7 @@ use Rattle.update.proofs.PhaseLaws.{actionAt, phase-place}
 use Rattle.update.proofs.StandsLaws.{stands-turns, stands-answers, stands-action}
 use Rattle.update.proofs.CutLaws.{Outcome, whole-or-losing}
 use Rattle.update.proofs.StartLaws.{CanStart, accepted-again, declined-whole}
-use Rattle.update.proofs.PowerFail.{new-wins, kept}
+use Rattle.update.proofs.PowerFail.{new-wins, kept, rested-runs}
 use Rattle.update.proofs.WordLaws.{chosenOf}
 
 turns-append : (g : Geometry) (image : List ℕ) (p : Position) (first other : List (List ℕ))
@@ -86,6 +85,8 @@ module _ (u : Fixed) where
     -- it lies in the new bank, and the operation does not erase both
     pub target : secondAtOf (p .state .device) (stepLocationOf g (p .state .device)) ≡ not b
     pub one-bank : eqb (opOf (p .state .device)) bothErase ≡ false
+    -- and it does not abort
+    pub goes : (sram : List ℕ) → effectOf g (p .state) sram .aborts ≡ false
 
   block-ready : (k : Block) (first : Device) (n : ℕ) → DeviceIn u k first → 0 < stepsIn u k → Ready (runIn u k first n)
   block-ready k first n begins some =
@@ -119,11 +120,17 @@ module _ (u : Fixed) where
             action = ap (actionAt u) (c .here) ∙ step-action u (c .block) (c .within .has) (c .count) (c .few);
             ready = rw same (block-ready (c .block) (c .first) (c .count) (c .within .begins) (omega (arith, c .few)));
             target = rw same (block-target (c .block) (c .first) (c .count) (stands .new) (c .within) (c .few));
+            goes = λ sram. goes sram;
             one-bank = rw (same, block-codes u (c .block) .op-code) (erases-one (c .block));
           }
         where
           same : p .state .device ≡ runIn u (c .block) (c .first) (c .count)
           same = ap (λ (s : State). s .device) (stands .state) ∙ c .device
+
+          goes : (sram : List ℕ) → effectOf g (p .state) sram .aborts ≡ false
+          goes sram =
+              ap (λ (s : State). effectOf g s sram .aborts) (stands .state ∙ ap (λ (d : Device). placed b d old (stands .new)) (c .device))
+              ∙ ap (λ (e : Effect). e .aborts) (block-writes u (c .block) (c .first) (c .count) (stands .new) (c .within) (c .few) sram)
 
           few : (p .place < totalOf g) ⊎ Finished u d (stands .new) (p .place) → p .place < totalOf g
           few (inl l) = l
@@ -161,6 +168,35 @@ module _ (u : Fixed) where
       let action = stands-action u p stands (steps .below) ∙ steps .action in
       ap (λ (t : Turning). at (t .state) (t .place)) (performs g (p .state) image sram (p .place) (steps .below) accepts)
       ∙ ap (λ (a : Action). at (performOf g (p .state) sram a .state) (p .place + 1)) action
+
+  -- so as many of its steps are as many turns
+  pub steps-turns : (sram : List ℕ) → length sram ≤ 16384 → (n : ℕ) (p : Position) → Stands u p → running (p .state .device) ≡ true
+      → n ≤ remainingOf g (p .state .device) → turnsOf g image p (replicate n sram) ≡ at (stepsOf g sram n (p .state) .state) (p .place + n)
+  unfolding stepsOf
+  steps-turns sram short zero p stands on few = ap (at (p .state)) (omega arith)
+  steps-turns sram short (suc n) p stands on few =
+      ap (λ (r : Position). turnsOf g image r (replicate n sram)) (step-turn p stands steps sram short)
+      ∙ go (running (q .state .device)) refl (λ runs. steps-turns sram short n q stands-next runs (one-less g (p .state) sram n few runs))
+    where
+      steps : Steps p
+      steps = running-steps p stands on
+
+      q : Position
+      q = at (stepOf g (p .state) sram .state) (p .place + 1)
+
+      stands-next : Stands u q
+      stands-next = rw (step-turn p stands steps sram short) at (stands-turns u p stands (sram ∷ []))
+
+      go : (t : Bool) → running (q .state .device) ≡ t
+          → (running (q .state .device) ≡ true → turnsOf g image q (replicate n sram) ≡ at (stepsOf g sram n (q .state) .state) (q .place + n))
+          → turnsOf g image q (replicate n sram)
+          ≡ at (pick t (stepsOf g sram n (q .state)) (stepped (q .state) (stepOf g (p .state) sram .event)) .state) (p .place + suc n)
+      go true runs rest = rest runs ∙ ap (at (stepsOf g sram n (q .state) .state)) (omega arith)
+      go false off rest =
+          let accepted = step-accepted g (p .state) sram listed (stands .sound) short on in
+          let last = last-ends g (p .state) sram accepted on (steps .goes sram) off in
+          let none : n ≡ 0 = omega (arith, few, last) in
+          rw none (ap (at (q .state)) (omega arith))
 
   -- ---- from a position: what a list of turns reaches
   module _ (start : Position) (begins : Stands u start) where
@@ -370,8 +406,12 @@ module _ (u : Fixed) where
     abbrev Whole : State → Type 0
     Whole t = bankOf t (not b) ≡ newBank u
 
+    -- which then runs after every reset and completed start-up
+    abbrev NewRuns : State → Type 0
+    NewRuns t = (c : Cut) → Restarts g t c → Runs (restarted g t c) (not b) (newBank u)
+
     abbrev pub Again : State → Type 0
-    Again t = (Update g t image × (Whole t → ⊥)) ⊎ ((startOf g t image .decline ≡ Decline.Sequence) × Whole t)
+    Again t = (Update g t image × (Whole t → ⊥)) ⊎ ((startOf g t image .decline ≡ Decline.Sequence) × (Whole t × NewRuns t))
 
     pub past-starts : (p : Position) → Past p → Again (p .state)
     past-starts p h = go (outcome (there .phase) (ap (λ (s : State). running (s .device)) (sym (there .state)) ∙ h .idle))
@@ -432,4 +472,7 @@ module _ (u : Fixed) where
 
         go : Outcome u new → Again (p .state)
         go (inl losing) = inl (again losing, λ whole. not-both b (sym (losing .loses .chosen) ∙ wins (sym new-there ∙ whole)))
-        go (inr whole) = inr (rw (there .state) (declined-whole u d new long (wins whole) can), new-there ∙ whole)
+        go (inr whole) =
+            let whole-there = new-there ∙ whole in
+            let runs : NewRuns (p .state) = λ c restart. rested-runs u (at (p .state) (h .kept .0 .place)) there c (h .idle) whole-there (restart .reset) in
+            inr (rw (there .state) (declined-whole u d new long (wins whole) can), (whole-there, runs))

@@ -4,7 +4,7 @@ use mathlib.Core.Bool.{Bool, true, false, not, _&&_}
 use mathlib.Core.Logic.{_⊎_, inl, inr}
 use mathlib.Core.List.{List, [], _∷_}
 use lib.ListN.{replicate}
-use Prim.Native.Nat.{ℕ, _≤_}
+use Prim.Native.Nat.{ℕ, _+_, _≤_}
 use Rattle.words.specs.Word.{pick}
 use Rattle.words.proofs.PickLaws.{pick-both}
 use Rattle.geometry.specs.declared.banks.Geometry.{Geometry}
@@ -15,22 +15,25 @@ use Rattle.map.specs.Windows.{locateOf}
 use Rattle.device.specs.Record.{running}
 use Rattle.reads.specs.Read.{secondAtOf, same, remainingOf, readAnswerOf, waitsOf, flashReadOf}
 use Rattle.controller.specs.Controller.{runOf, Keeps}
-use Rattle.controller.specs.Controller.Operation.{step}
+use Rattle.controller.specs.Controller.Operation.{step, flashRead}
+use Rattle.controller.proofs.Controller.{controller}
 use Rattle.controller.proofs.KeepLaws.{same-keeps, steps-keep}
 use Rattle.update.specs.Actions.{totalOf}
 use Rattle.update.specs.PowerFail.{Position, at, turnedOf, turnsOf, afterTurns, placeAfter, old, newBankOf, Update, Claims}
 use Rattle.update.specs.Start.{startOf}
 use Rattle.update.specs.Moves.{Move, End, movedOf, movesOf, waitsIn, turnsAmong, turnMoves, endStateOf, afterMoves, ByTurns, Declined, MovesFail}
-use Rattle.update.specs.Moves.{StartsAgain}
+use Rattle.update.specs.Moves.{StartsAgain, NewWhole}
 use Rattle.update.specs.Moves.Move.{turn, read}
 use Rattle.update.specs.Moves.End.{whole, inside}
 use Rattle.words.proofs.BitLaws.{true-not-false}
-use Rattle.controller.proofs.WaitLaws.{read-same, waits-runs, steps-run, read-steps}
+use Rattle.controller.proofs.WaitLaws.{read-same, waits-runs, waits-short, steps-run, read-steps}
 use Rattle.update.proofs.Blocks.{Fixed, Stands}
 use Rattle.update.proofs.StartLaws.{startFixed, start-stands}
 use Rattle.update.proofs.PowerFail.{same-end, power-fail}
 use Rattle.update.proofs.MoveLaws.{Reached, Where, Past, moves-where, where-reached, steps-reach, past-stays, declines, moves-total, waits-past}
-use Rattle.update.proofs.MoveLaws.{Again, past-starts, past-kept, waits-in-past, which}
+use Rattle.update.proofs.MoveLaws.{Again, past-starts, past-kept, waits-in-past, which, steps-turns}
+use Rattle.update.proofs.StandsLaws.{stands-turns}
+use Rattle.update.proofs.TurnLaws.{turn-keeps}
 use Rattle.update.proofs.MoveLaws.Where.{here, past}
 
 module _ (g : Geometry) (image : List ℕ) (s : State) (update : Update g s image) where
@@ -97,7 +100,7 @@ module _ (g : Geometry) (image : List ℕ) (s : State) (update : Update g s imag
       waitsOf g (p .state) sram address ≡ true
       → let t = movedOf g image p (read sram address) .state in
       (StartsAgain g s image t × (bankOf t (not (old s)) ≡ newBankOf g s image → ⊥))
-      ⊎ ((startOf g t image .decline ≡ Decline.Sequence) × (bankOf t (not (old s)) ≡ newBankOf g s image))
+      ⊎ ((startOf g t image .decline ≡ Decline.Sequence) × NewWhole g s image t)
   start-again B sram address waits = go (past-starts u (at s 0) begins q there)
     where
       q : Position
@@ -108,7 +111,7 @@ module _ (g : Geometry) (image : List ℕ) (s : State) (update : Update g s imag
 
       go : Again u (at s 0) begins (q .state)
           → (StartsAgain g s image (q .state) × (bankOf (q .state) (not (old s)) ≡ newBankOf g s image → ⊥))
-          ⊎ ((startOf g (q .state) image .decline ≡ Decline.Sequence) × (bankOf (q .state) (not (old s)) ≡ newBankOf g s image))
+          ⊎ ((startOf g (q .state) image .decline ≡ Decline.Sequence) × NewWhole g s image (q .state))
       go (inl (again, part)) =
           let boot = there .kept .1 .boot in
           let kept-old = past-kept u (at s 0) begins q there in
@@ -120,7 +123,26 @@ module _ (g : Geometry) (image : List ℕ) (s : State) (update : Update g s imag
             },
             part,
           )
-      go (inr declined-ten) = inr declined-ten
+      go (inr (ten, (left-whole, runs))) = inr (ten, record { left = left-whole; runs = runs })
+
+  -- a read that waits is met where turns stand
+  met : (B : List Move) (sram : List ℕ) (address : ℕ) → let p = movesOf g image (at s 0) B in waitsOf g (p .state) sram address ≡ true → Stands u p
+  met B sram address waits = go (stood B)
+    where
+      p : Position
+      p = movesOf g image (at s 0) B
+
+      go : Where u (at s 0) begins p → Stands u p
+      go (here srams e) = rw e at (stands-turns u (at s 0) begins srams)
+      go (past h) = true-not-false (sym (waits-runs g (p .state) sram address waits) ∙ h .idle)
+
+  inside-turns : (B : List Move) (sram : List ℕ) (address n : ℕ) → let p = movesOf g image (at s 0) B in
+      waitsOf g (p .state) sram address ≡ true → n ≤ remainingOf g (p .state .device)
+      → turnsOf g image p (replicate n sram) ≡ at (endStateOf g (p .state) (inside sram address n)) (p .place + n)
+  inside-turns B sram address n waits few =
+      let p = movesOf g image (at s 0) B in
+      let on = waits-runs g (p .state) sram address waits in
+      rw waits (steps-turns u sram (waits-short g (p .state) sram address waits) n p (met B sram address waits) on few)
 
 unwaited : (g : Geometry) (image : List ℕ) (p : Position) (B : List Move) → waitsIn g image p B ≡ false
     → movesOf g image p B ≡ turnsOf g image p (turnsAmong B)
@@ -154,6 +176,10 @@ end-keeps : (g : Geometry) (s : State) (end : End) → Keeps g s (endStateOf g s
 end-keeps g s whole = same-keeps g s
 end-keeps g s (inside sram address n) = pick-both (Keeps g s) (waitsOf g s sram address) (steps-keep g sram n s) (same-keeps g s)
 
+move-keeps : (g : Geometry) (image : List ℕ) (p : Position) (m : Move) → Keeps g (p .state) (movedOf g image p m .state)
+move-keeps g image p (turn sram) = turn-keeps g image p sram
+move-keeps g image p (read sram address) = controller .keeps g (p .state) (flashRead sram address)
+
 pub moves-fail : (g : Geometry) (image : List ℕ) → MovesFail g image
 moves-fail g image =
     record {
@@ -167,6 +193,8 @@ moves-fail g image =
       start-again = start-again g image;
       inside-steps = inside-steps g;
       inside-all = inside-all g;
+      inside-turns = inside-turns g image;
       turns-alone = turns-alone g image;
+      move-keeps = move-keeps g image;
       end-keeps = end-keeps g;
     }

@@ -179,6 +179,20 @@ module _ (u : Fixed) where
           go false h =
               ap (λ (s : State). bankOf s b) (controller .declined-same g (p .state) (Operation.reset (c .sram) (c .kind) (c .mask)) h) ∙ kept
 
+      -- at rest and with the whole new bank it runs that bank
+      pub rested-runs : running (p .state .device) ≡ false → bankOf (p .state) (not b) ≡ newBank u
+          → acceptedOf (resetBy g (p .state) c .decline) ≡ true → Runs (restarted g (p .state) c) (not b) (newBank u)
+      rested-runs off whole accepted =
+          let r = resetBy g (p .state) c .state in
+          let cut = leaves accepted in
+          let same = sym (new-bank (stands .device) can (c .kind) r cut) ∙ either b (reset-idle g (p .state) c off) in
+          whole-runs (stands .device) can (c .kind) r cut (same ∙ whole)
+        where
+          either : (t : Bool) → SameBanks (p .state) (resetBy g (p .state) c .state)
+              → bankOf (resetBy g (p .state) c .state) (not t) ≡ bankOf (p .state) (not t)
+          either true (one, two) = one
+          either false (one, two) = two
+
 -- ---- run A and run B of an accepted update
 module _ (g : Geometry) (s : State) (image : List ℕ) (update : Update g s image) where
   abbrev u : Fixed
@@ -209,20 +223,10 @@ module _ (g : Geometry) (s : State) (image : List ℕ) (update : Update g s imag
     stays : (c : Cut) → SameBanks a (resetBy g a c .state)
     stays c = reset-idle g a c (done-idle u (turnsOf g image (at s 0) A) (stands A) reached)
 
-    module _ (c : Cut) (restart : Restarts g a c) where
-      after-a : AfterCut u (stands A .device) (c .kind) (resetBy g a c .state)
-      after-a = leaves u (turnsOf g image (at s 0) A) (stands A) c (restart .reset)
-
-      new-runs : Runs (restarted g a c) (not (old s)) (newBankOf g s image)
-      new-runs =
-          let can-a = can u (turnsOf g image (at s 0) A) (stands A) in
-          let same = either (old s) (stays c) in
-          whole-runs u (stands A .device) can-a (c .kind) (resetBy g a c .state) after-a
-          (sym (new-bank u (stands A .device) can-a (c .kind) (resetBy g a c .state) after-a) ∙ same ∙ new-left)
-        where
-          either : (t : Bool) → SameBanks a (resetBy g a c .state) → bankOf (resetBy g a c .state) (not t) ≡ bankOf a (not t)
-          either true (one, two) = one
-          either false (one, two) = two
+    new-runs : (c : Cut) → Restarts g a c → Runs (restarted g a c) (not (old s)) (newBankOf g s image)
+    new-runs c restart =
+        let p = turnsOf g image (at s 0) A in
+        rested-runs u p (stands A) c (done-idle u p (stands A) reached) new-left (restart .reset)
 
     module _ (B : List (List ℕ)) where
       abbrev b : State

@@ -169,6 +169,7 @@ module _ (g : Geometry) (s : State) (image sram : List ℕ) (place : ℕ) where
         declined = λ h. apart (turn-declined (ap acceptedOf (sym answers-so) ∙ h));
         done = rw answers-so (done (acceptedOf (turnDeclineOf g s image (length sram) place)) (eqb place (totalOf g)));
         unchanged = λ e. apart (turn-done e);
+        performs = λ h l. performs l (ap acceptedOf (sym answers-so) ∙ h);
         raises = λ h l. ap (λ (r : Turning). r .place) (performs l (ap acceptedOf (sym answers-so) ∙ h));
       }
     where

@@ -1,5 +1,5 @@
 -- W-207 and demand 3: lists of turns with flash reads between them, also ended inside a read that waits. Assumes nothing.
-use Prim.Native.Nat.{ℕ, _≤_, _<_}
+use Prim.Native.Nat.{ℕ, _+_, _≤_, _<_}
 use mathlib.Core.Path.{_≡_}
 use mathlib.Core.Bool.{Bool, true, false, not, _&&_}
 use mathlib.Core.Logic.{_⊎_}
@@ -18,7 +18,8 @@ use Rattle.controller.specs.Controller.{runOf, Keeps}
 use Rattle.controller.specs.Controller.Operation.{step}
 use Rattle.update.specs.Actions.{totalOf}
 use Rattle.update.specs.Turn.{turnOf}
-use Rattle.update.specs.PowerFail.{Position, at, turnedOf, turnsOf, afterTurns, placeAfter, old, newBankOf, SameBanks, OldKept, Update, Claims}
+use Rattle.update.specs.PowerFail.{Position, at, turnedOf, turnsOf, afterTurns, placeAfter, Cut, restarted, Restarts}
+use Rattle.update.specs.PowerFail.{old, Runs, newBankOf, SameBanks, OldKept, Update, Claims}
 use Rattle.update.specs.Start.{startOf}
 use Rattle.words.specs.Decline.{acceptedOf}
 
@@ -87,6 +88,11 @@ pub record StartsAgain (g : Geometry) (s : State) (image : List ℕ) (t : State)
   pub same-end : (A C : List (List ℕ)) → placeAfter g s image A ≡ totalOf g → placeAfter g t image C ≡ totalOf g
       → SameBanks (afterTurns g s image A) (afterTurns g t image C)
 
+-- the new bank of an update from s is whole in t, and runs after every reset and completed start-up
+pub record NewWhole (g : Geometry) (s : State) (image : List ℕ) (t : State) : Type 0 where
+  pub left : bankOf t (not (old s)) ≡ newBankOf g s image
+  pub runs : (c : Cut) → Restarts g t c → Runs (restarted g t c) (not (old s)) (newBankOf g s image)
+
 pub record MovesFail (g : Geometry) (image : List ℕ) : Type 0 where
   -- every list of moves leaves the device and the banks that some list of turns leaves, also one ended inside a read: those of the list's
   -- place or a later one
@@ -113,14 +119,19 @@ pub record MovesFail (g : Geometry) (image : List ℕ) : Type 0 where
       waitsOf g (p .state) sram address ≡ true
       → let t = movedOf g image p (read sram address) .state in
       (StartsAgain g s image t × (bankOf t (not (old s)) ≡ newBankOf g s image → ⊥))
-      ⊎ ((startOf g t image .decline ≡ Decline.Sequence) × (bankOf t (not (old s)) ≡ newBankOf g s image))
+      ⊎ ((startOf g t image .decline ≡ Decline.Sequence) × NewWhole g s image t)
   -- "each step inside one is a place where the supply may fail": after n steps of a read the state is what n single steps leave, and after
   -- as many as remain it is what the read leaves
   pub inside-steps : (s : State) (sram : List ℕ) (address n : ℕ) → waitsOf g s sram address ≡ true
       → endStateOf g s (inside sram address n) ≡ runOf g s (replicate n (step sram))
   pub inside-all : (s : State) (sram : List ℕ) (address : ℕ) → waitsOf g s sram address ≡ true
       → endStateOf g s (inside sram address (remainingOf g (s .device))) ≡ flashReadOf g s sram address .after .state
+  -- those of the place n further on, while no more are done than remain
+  pub inside-turns : (s : State) → Update g s image → (B : List Move) (sram : List ℕ) (address n : ℕ) → let p = movesOf g image (at s 0) B in
+      waitsOf g (p .state) sram address ≡ true → n ≤ remainingOf g (p .state .device)
+      → turnsOf g image p (replicate n sram) ≡ at (endStateOf g (p .state) (inside sram address n)) (p .place + n)
   -- turns with no read between them are the turns of the old statement
   pub turns-alone : (p : Position) (srams : List (List ℕ)) → movesOf g image p (turnMoves srams) ≡ turnsOf g image p srams
-  -- a part of a read changes no page that is protected at that time, nor the length of a bank
+  -- neither a move nor a part of a read changes a page that is protected at that time, nor the length of a bank
+  pub move-keeps : (p : Position) (m : Move) → Keeps g (p .state) (movedOf g image p m .state)
   pub end-keeps : (s : State) (end : End) → Keeps g s (endStateOf g s end)

@@ -96,5 +96,8 @@ pub record EveryTurn (g : Geometry) (s : State) (image sram : List ℕ) (place :
   -- "At the total, and only there, it says done and changes nothing."
   pub done : turnOf g s image sram place .done ≡ (acceptedOf (turnOf g s image sram place .decline) && eqb place (totalOf g))
   pub unchanged : place ≡ totalOf g → (turnOf g s image sram place .state ≡ s) × (turnOf g s image sram place .place ≡ place)
+  -- "Each turn does one action": that of its place, with t read from the banks as the turn gets them
+  pub performs : acceptedOf (turnOf g s image sram place .decline) ≡ true → place < totalOf g
+      → turnOf g s image sram place ≡ performed place (performOf g s sram (actionAtOf g image (lowerWordOf g s) place))
   -- "and raises the place by 1"
   pub raises : acceptedOf (turnOf g s image sram place .decline) ≡ true → place < totalOf g → turnOf g s image sram place .place ≡ place + 1

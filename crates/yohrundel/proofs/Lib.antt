@@ -1,1 +1,2 @@
 pub mod NoNine
+pub mod NeverWait

@@ -1,9 +1,9 @@
 -- The invariant: the steps that are left lead from here to where all of them lead from the start. The measure is their number.
-use Prim.Native.Nat.{suc, _-_}
+use Prim.Native.Nat.{_-_}
 use borrow.Author.Needs.{needs}
 use borrow.Author.Tests.{not-true, not-false}
 use lib.ListN.{length}
-use mathlib.Core.Path.{_≡_, refl, sym, ap, _∙_}
+use mathlib.Core.Path.{_≡_, refl, sym, _∙_}
 use native.Mathlib.Omega.{arith}
 use Rattle.device.specs.State.{state}
 use Rattle.flash.specs.Step.{stepOf}
