@@ -1,11 +1,11 @@
-//! Whole updates cut at every place: what the program `cuts` prints.
+//! Whole updates cut at every place, and lists with a flash read, cut after it and inside it: what the program `cuts` prints.
 
 use crate::device::{Device, BFSWAP, NVMCON, PFSWAP};
-use crate::flash::reset;
-use crate::geometry::{Banks, Geometry, ALL_ONES};
+use crate::flash::{flash_read, reset, step};
+use crate::geometry::{Banks, Geometry, Kind, Side, ALL_ONES};
 use crate::store::start_up;
 use crate::update::{turn, update_start};
-use crate::Refusal;
+use crate::{Answer, Refusal};
 
 /// A sign before power-on: its geometry, the index of its old bank, and the sequence words of the old bank and the other.
 struct Sign {
@@ -137,7 +137,8 @@ fn refusal_number(refusal: Refusal) -> u64 {
     u64::from(refusal.number())
 }
 
-/// The lines of a sign: the first of the sign itself, then one for each place up to the total.
+/// The lines of a sign: the first of the sign itself, then one for each place up to the total, then those of the lists with a
+/// read.
 fn lines(sign: &Sign) -> String {
     let Ok(geometry) = Geometry::new(sign.numbers) else {
         return String::new();
@@ -160,33 +161,87 @@ fn lines(sign: &Sign) -> String {
     let [row_quads, boot_pages, program_pages] = sign.numbers.map(u64::from);
     let first = [row_quads, boot_pages, program_pages];
     let mut text = line(&[&first[..], &[u64::from(runs), answer, u64::from(total)]].concat());
+    let mut lists = String::new();
     for place in 0..=total {
-        let numbers = place_numbers(sign, &image, &mut state, place);
-        text.push_str(&line(&numbers));
+        lists.push_str(&read_lines(sign, &geometry, &image, &state, place));
+        let cuts = cut_numbers(sign, &image, &state);
+        let answer = turn_numbers(sign, &image, &mut state, place);
+        text.push_str(&line(&[&[u64::from(place)], &cuts[..], &answer].concat()));
     }
-    text
+    text + &lists
 }
 
-/// The numbers of a place's line; the turn of the place is done.
-fn place_numbers(sign: &Sign, image: &[u32], state: &mut State, place: u32) -> Vec<u64> {
+/// The cuts of a state, and the sums.
+fn cut_numbers(sign: &Sign, image: &[u32], state: &State) -> Vec<u64> {
     let mut sums = Sums::of(state);
-    let mut banks = Vec::new();
+    let mut numbers = Vec::new();
     for kind in 0..3 {
         for mask in MASKS {
-            banks.extend(cut(sign, image, state.clone(), (kind, mask), &mut sums));
+            numbers.extend(cut(sign, image, state.clone(), (kind, mask), &mut sums));
         }
     }
+    numbers.extend(sums.numbers());
+    numbers
+}
+
+/// The turn of a place is done; its answer, done and event.
+fn turn_numbers(sign: &Sign, image: &[u32], state: &mut State, place: u32) -> [u64; 3] {
     let device = state.device;
-    let turned = turn(sign.numbers, device, &mut state.banks(), image, &[], place);
-    let answer = match turned {
+    match turn(sign.numbers, device, &mut state.banks(), image, &[], place) {
         Ok(after) => {
             state.device = after.device;
             [0, u64::from(after.done), u64::from(after.event)]
         }
         Err(refusal) => [refusal_number(refusal), 0, 0],
+    }
+}
+
+/// The lists with a read of the new bank after the turns up to a place: with all of the read, then ended inside it.
+fn read_lines(
+    sign: &Sign,
+    geometry: &Geometry,
+    image: &[u32],
+    before: &State,
+    place: u32,
+) -> String {
+    let mut state = before.clone();
+    // in an update the new bank stands upper; 32 program words are the fewest
+    let start = geometry.window_start(Kind::Program, Side::Upper);
+    let address = start + 4 * (place % 32);
+    let device = state.device;
+    let read = flash_read(sign.numbers, device, &mut state.banks(), &[], address);
+    let (answer, waits) = match read {
+        Ok(read) => {
+            state.device = read.device;
+            ([0, u64::from(read.word), u64::from(read.event)], read.event)
+        }
+        Err(refusal) => ([refusal_number(refusal), 0, 0], false),
     };
-    let parts = [&[u64::from(place)], &banks[..], &sums.numbers(), &answer];
-    parts.concat()
+    let cuts = cut_numbers(sign, image, &state);
+    let turned = turn_numbers(sign, image, &mut state, place);
+    let text = line(&[&[u64::from(place), 0], &answer[..], &cuts, &turned].concat());
+    if !waits {
+        return text;
+    }
+    let inside = inside_lines(sign, image, before.clone(), place);
+    text + &inside.unwrap_or_default()
+}
+
+/// The lists that end inside a read that waits: after each of its steps but the last.
+fn inside_lines(sign: &Sign, image: &[u32], mut state: State, place: u32) -> Answer<String> {
+    let mut text = String::new();
+    for count in 1.. {
+        let device = state.device;
+        let (device, event) = step(sign.numbers, device, &mut state.banks(), &[])?;
+        state.device = device;
+        if !device.running() {
+            break;
+        }
+        let first = [u64::from(place), count, 0, u64::from(event)];
+        let cuts = cut_numbers(sign, image, &state);
+        text.push_str(&line(&[&first[..], &cuts].concat()));
+    }
+    Ok(text)
 }
 
 /// One cut: the bank that runs then, the answer of a second start, and the bank that runs after the second update.

@@ -1,8 +1,4 @@
 // The cuts of an update.
-// What asks for room or for numbers in a range is no call of the device: its callers show it.
-ghost use Prim.Native.Nat.{_≤_, _<_};
-ghost use mathlib.Core.Path.{_≡_};
-ghost use lib.ListN.{length};
 use crate::output::end_line;
 use crate::output::put;
 use crate::output::put_first;
@@ -10,7 +6,6 @@ use crate::output::put_flag;
 use crate::output::put_sums;
 use crate::signs::Sign;
 use crate::signs::copy;
-use crate::signs::fill;
 use crate::signs::mask;
 use crate::sums::Sums;
 use crate::updates::Ended;
@@ -81,8 +76,8 @@ fn put_cut(
     put_again(g, device, one, two, image, summed)
 }
 
-// Every cut of a place, and the sums.
-fn put_cuts(
+// Every cut of a state, and the sums.
+pub fn put_cuts(
     sign: Sign,
     d: Device,
     one: &[u32],
@@ -102,6 +97,27 @@ fn put_cuts(
     put_sums(sums);
 }
 
+// The rest of a line: the cuts of a state, and the turn of a place from it; gives the device after the turn.
+pub fn put_cuts_and_turn(
+    sign: Sign,
+    d: Device,
+    one: &mut [u32],
+    two: &mut [u32],
+    image: &[u32],
+    first: &mut [u32],
+    second: &mut [u32],
+    place: u32,
+) -> Device {
+    put_cuts(sign, d, one, two, image, first, second);
+    let turned = turn_at(sign.geometry, d, one, two, image, place);
+    let decline = turned.decline;
+    put(decline.number() as u64);
+    put_flag(turned.done);
+    put_flag(turned.event);
+    end_line();
+    turned.device
+}
+
 // The line of a place; gives the device after its turn.
 fn put_place(
     sign: Sign,
@@ -114,14 +130,7 @@ fn put_place(
     place: u32,
 ) -> Device {
     put_first(place);
-    put_cuts(sign, d, one, two, image, first, second);
-    let turned = turn_at(sign.geometry, d, one, two, image, place);
-    let decline = turned.decline;
-    put(decline.number() as u64);
-    put_flag(turned.done);
-    put_flag(turned.event);
-    end_line();
-    turned.device
+    put_cuts_and_turn(sign, d, one, two, image, first, second, place)
 }
 
 // The lines of all places.
@@ -144,15 +153,15 @@ fn put_places(
     put_place(sign, device, one, two, image, first, second, total);
 }
 
-// The line of a sign, and those of its places. The banks and the image are filled.
-fn put_sign(
+// The line of a sign, and those of its places; gives the total. The banks and the image are filled.
+pub fn put_sign(
     sign: Sign,
     one: &mut [u32],
     two: &mut [u32],
     image: &[u32],
     first: &mut [u32],
     second: &mut [u32],
-) {
+) -> u32 {
     let g = sign.geometry;
     let running = restart(g, power_on(), one, two, 0, mask(0));
     let device = running.device;
@@ -166,62 +175,5 @@ fn put_sign(
     put(started.total as u64);
     end_line();
     put_places(sign, device, one, two, image, first, second, started.total);
-}
-
-// Fills the banks and the image of a sign before power-on.
-fn fill_sign(sign: Sign, one: &mut [u32], two: &mut [u32], image: &mut [u32])
-    requires { ⌜ (length (now one) ≤ 192) × (length (now two) ≤ 192) × (length (now image) ≤ 192) ⌝ }
-    requires { ⌜ (sign .sequence < length (now one)) × (sign .sequence < length (now two)) ⌝ }
-{
-    fill(one, 1);
-    fill(two, 2);
-    fill(image, 3);
-    let at = sign.sequence;
-    if sign.old == 1 {
-        one[at] = sign.own;
-        two[at] = sign.other;
-    } else {
-        one[at] = sign.other;
-        two[at] = sign.own;
-    }
-}
-
-// Fills the banks and the image, and cuts the update at every place.
-fn fill_and_cut(
-    sign: Sign,
-    one: &mut [u32],
-    two: &mut [u32],
-    image: &mut [u32],
-    first: &mut [u32],
-    second: &mut [u32],
-)
-    requires { ⌜ (length (now one) ≡ sign .words) × (length (now two) ≡ sign .words) × (length (now image) ≡ sign .words) ⌝ }
-    requires { ⌜ (sign .words ≤ 192) × (sign .sequence < sign .words) ⌝ }
-{
-    fill_sign(sign, one, two, image);
-    put_sign(sign, one, two, image, first, second);
-}
-
-// Cuts the update of a sign. The lists have room for every sign; a sign's own words are the first of each.
-pub fn cut_sign(
-    sign: Sign,
-    one: &mut [u32],
-    two: &mut [u32],
-    image: &mut [u32],
-    first: &mut [u32],
-    second: &mut [u32],
-)
-    requires { ⌜ (length (now one) ≡ 192) × (length (now two) ≡ 192) × (length (now image) ≡ 192) ⌝ }
-    requires { ⌜ (length (now first) ≡ 192) × (length (now second) ≡ 192) ⌝ }
-    requires { ⌜ (sign .words ≤ 192) × (sign .sequence < sign .words) ⌝ }
-{
-    let words = sign.words;
-    fill_and_cut(
-        sign,
-        &mut one[..words],
-        &mut two[..words],
-        &mut image[..words],
-        &mut first[..words],
-        &mut second[..words],
-    );
+    started.total
 }

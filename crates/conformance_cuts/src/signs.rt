@@ -68,7 +68,7 @@ fn word(index: usize, seed: u64) -> u32
     (mixed % 4294967296) as u32
 }
 
-pub fn fill(words: &mut [u32], seed: u64)
+fn fill(words: &mut [u32], seed: u64)
     requires { ⌜ (length (now words) ≤ 192) × (seed < 1000) ⌝ }
 {
     let mut i = 0;
@@ -76,6 +76,30 @@ pub fn fill(words: &mut [u32], seed: u64)
         words[i] = word(i, seed);
         i += 1;
     }
+}
+
+// Fills the banks of a sign before power-on.
+pub fn fill_banks(sign: Sign, one: &mut [u32], two: &mut [u32])
+    requires { ⌜ (length (now one) ≤ 192) × (length (now two) ≤ 192) ⌝ }
+    requires { ⌜ (sign .sequence < length (now one)) × (sign .sequence < length (now two)) ⌝ }
+{
+    fill(one, 1);
+    fill(two, 2);
+    let at = sign.sequence;
+    if sign.old == 1 {
+        one[at] = sign.own;
+        two[at] = sign.other;
+    } else {
+        one[at] = sign.other;
+        two[at] = sign.own;
+    }
+}
+
+// Fills the image of a sign.
+pub fn fill_image(image: &mut [u32])
+    requires { ⌜ length (now image) ≤ 192 ⌝ }
+{
+    fill(image, 3);
 }
 
 pub fn copy(from: &[u32], to: &mut [u32]) {

@@ -1,8 +1,12 @@
-// Resets with a start-up, and whole updates.
+// Resets with a start-up, flash steps and reads, turns and whole updates.
 ghost use Prim.Native.Nat.{_≤_};
+use device::answer::Answer;
 use device::record::Device;
 use device::registers::Nvmcon;
+use flash::step::step;
 use geometry::banks::Geometry;
+use reads::FlashRead;
+use reads::flash_read;
 use resets::reset;
 use start_up::start_up;
 use update::turn::Turned;
@@ -73,6 +77,24 @@ pub fn restart(
     started_up(g, device)
 }
 
+// A flash step with no SRAM.
+pub fn step_at(g: Geometry, d: Device, one: &mut [u32], two: &mut [u32]) -> Answer {
+    let none = [0u32; 1];
+    step(g, d, one, two, &none[0..0])
+}
+
+// A flash read with no SRAM.
+pub fn read_at(
+    g: Geometry,
+    d: Device,
+    one: &mut [u32],
+    two: &mut [u32],
+    address: u32,
+) -> FlashRead {
+    let none = [0u32; 1];
+    flash_read(g, d, one, two, &none[0..0], address)
+}
+
 // A turn with no SRAM.
 pub fn turn_at(
     g: Geometry,
@@ -105,6 +127,30 @@ fn after_turn(before: Ended, turned: Turned) -> Ended {
     }
 }
 
+// So many turns from place 0.
+pub fn run_turns(
+    g: Geometry,
+    d: Device,
+    one: &mut [u32],
+    two: &mut [u32],
+    image: &[u32],
+    count: u32,
+) -> Ended {
+    let mut ended = Ended {
+        device: d,
+        place: 0,
+        events: 0,
+        is_done: false,
+    };
+    let mut turns = 0;
+    while turns < count {
+        let device = ended.device;
+        ended = after_turn(ended, turn_at(g, device, one, two, image, ended.place));
+        turns += 1;
+    }
+    ended
+}
+
 // So many turns, and one more, which is done where the turns reach the total.
 pub fn run_whole(
     g: Geometry,
@@ -114,18 +160,7 @@ pub fn run_whole(
     image: &[u32],
     total: u32,
 ) -> Ended {
-    let mut ended = Ended {
-        device: d,
-        place: 0,
-        events: 0,
-        is_done: false,
-    };
-    let mut turns = 0;
-    while turns < total {
-        let device = ended.device;
-        ended = after_turn(ended, turn_at(g, device, one, two, image, ended.place));
-        turns += 1;
-    }
+    let ended = run_turns(g, d, one, two, image, total);
     let device = ended.device;
     after_turn(ended, turn_at(g, device, one, two, image, ended.place))
 }

@@ -2,8 +2,8 @@
 use borrow.Author.Needs.{needs}
 use mathlib.Core.Path.{sym}
 use lib.Seq.{length-take-le}
-use Rattle.conformance_cuts.proofs.cuts.cut_sign.Statement.{statement}
-use Rattle.conformance_cuts.proofs.cuts.cut_sign.Tie as tie
+use Rattle.conformance_cuts.proofs.cut_sign.Statement.{statement}
+use Rattle.conformance_cuts.proofs.cut_sign.Tie as tie
 
 -- ---- each list has as many words as the sign
 

@@ -4,24 +4,24 @@ use Prim.Native.Nat.{_≤_, _-_}
 use mathlib.Core.Path.{_≡_}
 use native.Mathlib.Omega.{arith}
 use lib.ListN.{length}
-use Rattle.conformance_cuts.proofs.updates.run_whole.Statement.{statement}
-use Rattle.conformance_cuts.proofs.updates.run_whole.Tie as tie
+use Rattle.conformance_cuts.proofs.updates.run_turns.Statement.{statement}
+use Rattle.conformance_cuts.proofs.updates.run_turns.Tie as tie
 
 abbrev Inv-loop : tie.InvT-loop
-Inv-loop g one₀ two₀ image total ended₀ turns₀ one two ended turns =
-    (turns ≤ total) × (length one ≡ length one₀) × (length two ≡ length two₀)
+Inv-loop g one₀ two₀ image count ended₀ turns₀ one two ended turns =
+    (turns ≤ count) × (length one ≡ length one₀) × (length two ≡ length two₀)
 
 abbrev μ-loop : tie.MeasureT-loop
-μ-loop g one₀ two₀ image total ended₀ turns₀ one two ended turns = total - turns
+μ-loop g one₀ two₀ image count ended₀ turns₀ one two ended turns = count - turns
 
 no-overflow : tie.Need-add-turns Inv-loop μ-loop
 no-overflow c =
     let test = c .before .before .before .before .before .before .before .before .before in
     let start = test .before .before .before .before .before in
-    omega (arith, start .fits .total, test .loop-test .taken)
+    omega (arith, start .fits .count, test .loop-test .taken)
 
-pub run-whole-spec : {M : Type 1} → statement M
-run-whole-spec =
+pub run-turns-spec : {M : Type 1} → statement M
+run-turns-spec =
     tie.close
     (tie.spec
     Inv-loop
@@ -32,8 +32,6 @@ run-whole-spec =
     no-overflow
     (λ c. search needs)
     (λ c. search needs)
-    (λ c κs. search needs)
-    (λ c κs. search needs)
     (λ c. search needs)
     (λ c. search needs)
     (λ c. search needs))
