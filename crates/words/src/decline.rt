@@ -21,7 +21,7 @@ pub enum Decline {
     ResetKind,
     // 8: no such address or page.
     Address,
-    // 9: the bank is being worked on.
+    // 9: the bank is being worked on. No call gives it: a flash read waits.
     Busy,
     // 10: the sequence words or the mapping do not allow an update.
     Sequence,
