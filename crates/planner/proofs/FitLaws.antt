@@ -7,11 +7,10 @@ use Prim.Native.Nat.{ℕ, zero, suc, _<_}
 use native.Mathlib.Decide.{decLt}
 use native.Mathlib.Omega.{arith}
 use Rattle.words.proofs.BitLaws.{true-not-false}
-use Rattle.words.proofs.PickLaws.{all-below}
+use Rattle.words.proofs.PickLaws.{all-below, all-hold}
 use Rattle.planner.specs.Windows.{windowCountOf, windowAt}
 use Rattle.planner.specs.Planner.{anyBelow, fitsInOf, fitsOf}
 use Rattle.planner.specs.PlanLaws.{InOneWindow}
-use Rattle.planner.proofs.WindowLaws.{all-hold}
 
 -- a number below n of which p holds
 record Some (p : ℕ → Bool) (n : ℕ) : Type 0 where

@@ -9,15 +9,10 @@ use native.Mathlib.Nat.{mod-lt}
 use native.Mathlib.Omega.{arith}
 use borrow.Author.Tests.{lt-ltb, le-ltb}
 use Rattle.words.specs.Word.{allBelow}
-use Rattle.words.proofs.PickLaws.{not-all-below}
+use Rattle.words.proofs.PickLaws.{all-hold, not-all-below}
 use Rattle.planner.specs.Windows.{week, window, heldOf}
 use Rattle.planner.specs.Planner.{fitsInOf}
 use Rattle.planner.proofs.FirstLaws.{First}
-
--- what holds of each number below n is tested so
-pub all-hold : (p : ℕ → Bool) (n : ℕ) → ((k : ℕ) → k < n → p k ≡ true) → allBelow p n ≡ true
-all-hold p zero h = refl
-all-hold p (suc n) h = rw (all-hold p n (λ k l. h k (omega arith))) (h n (omega arith))
 
 -- how many minutes a minute comes after a window's start
 abbrev pub offset : ℕ → ℕ → ℕ

@@ -1,7 +1,7 @@
 -- "Service script": records of 8 bytes, and decline 14. Assumes nothing.
 use Prim.Native.Nat.{ℕ, _+_, _*_, _/_, _%_}
 use mathlib.Core.Bool.{Bool, false, _&&_}
-use mathlib.Core.List.{List}
+use mathlib.Core.List.{List, [], _∷_, _++_}
 use lib.Dec.{eqb, leb}
 use lib.ListN.{length, getD}
 use Rattle.words.specs.Word.{pick, allBelow}
@@ -26,6 +26,16 @@ recordOf script i =
       unused = byteOf script i 3;
       value = valueOf script i;
     }
+
+-- the lowest bytes of four numbers
+abbrev pub lowBytes : ℕ → ℕ → ℕ → ℕ → List ℕ
+lowBytes a b c d = a % 256 ∷ b % 256 ∷ c % 256 ∷ d % 256 ∷ []
+
+-- the bytes of a record (W-202): "kind, register or reset kind, form, 0, value little-endian"
+unfoldable pub bytesOf : Record → List ℕ
+bytesOf r =
+    lowBytes (r .kind) (r .number) (r .form) (r .unused)
+    ++ lowBytes (r .value) (r .value / 256) (r .value / 65536) (r .value / 16777216)
 
 -- "0 store": a known register and form; NVMKEY with form 1 to 3 is one, too
 unfoldable pub isStoreOf : Record → Bool

@@ -1,9 +1,10 @@
-// Records of 8 bytes, and decline 14.
-// What asks for a whole record is no call of the script: its callers count the records first.
+// Records of 8 bytes, read and written, and decline 14.
+// What asks for a whole record, or for room for one, is no call of the script: its callers count the records first.
 ghost use mathlib.Core.Path.{_≡_};
 ghost use Prim.Native.Nat.{_+_, _*_, _≤_, _<_};
 ghost use lib.ListN.{length};
-ghost use Rattle.script_format.specs.Records.{byteOf, valueOf, recordOf, isStoreOf, isStepOf, isResetOf, isRecordOf, isScriptOf};
+ghost use lib.Seq.{sets};
+ghost use Rattle.script_format.specs.Records.{byteOf, valueOf, recordOf, lowBytes, bytesOf, isStoreOf, isStepOf, isResetOf, isRecordOf, isScriptOf};
 
 // What the bytes of a record say. `number` is the register of a store and the kind of a reset.
 pub struct Record {
@@ -50,6 +51,34 @@ pub fn record_at(script: &[u8], i: usize) -> Record
         unused: byte(script, i, 3),
         value: value(script, i),
     }
+}
+
+// Writes the lowest bytes of four numbers at a position.
+fn put_four(out: &mut [u8], at: usize, first: u32, second: u32, third: u32, fourth: u32)
+    requires { ⌜ at + 4 ≤ length (now out) ⌝ }
+    ensures { λ _. ⌜ now (out .exit) ≡ sets (now (out .entry)) at (lowBytes first second third fourth) ⌝ }
+{
+    out[at] = (first % 256) as u8;
+    out[at + 1] = (second % 256) as u8;
+    out[at + 2] = (third % 256) as u8;
+    out[at + 3] = (fourth % 256) as u8;
+}
+
+// Writes the bytes of a record at a position.
+pub fn put_record(out: &mut [u8], at: usize, r: Record)
+    requires { ⌜ at + 8 ≤ length (now out) ⌝ }
+    ensures { λ _. ⌜ now (out .exit) ≡ sets (now (out .entry)) at (bytesOf r) ⌝ }
+{
+    put_four(out, at, r.kind, r.number, r.form, r.unused);
+    let value = r.value;
+    put_four(
+        out,
+        at + 4,
+        value,
+        value / 256,
+        value / 65536,
+        value / 16777216,
+    );
 }
 
 fn is_store(r: Record) -> bool

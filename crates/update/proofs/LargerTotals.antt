@@ -16,13 +16,13 @@ use Rattle.geometry.specs.Banks.{listedOf, inRangeUpTo, inRangeOf, InRange, pag
 use Rattle.geometry.specs.LargerBanks.{mostBefore}
 use Rattle.geometry.proofs.SizeLaws.{in-range}
 use Rattle.flash.proofs.EffectLaws.{length-high}
-use Rattle.script_format.specs.Records.{valueOf, recordOf, isStoreOf, isStepOf, isRecordOf, isScriptOf}
+use Rattle.script_format.specs.Records.{valueOf, recordOf, bytesOf, isStoreOf, isStepOf, isRecordOf, isScriptOf}
 use Rattle.update.specs.declared.actions.Action.{Action}
 use Rattle.update.specs.declared.actions.Action.the-variants.{Store, Step}
 use Rattle.update.specs.Actions.{stored, prologue, pageStores, quadBlock, upperAddressOf, erasedPageOf, programmedQuadOf, newQuadOf, bankQuadsOf}
-use Rattle.update.specs.Actions.{pageActions, programmingFrom, pageActionOf, quadActionOf, actionAtOf, totalOf}
+use Rattle.update.specs.Actions.{recorded, pageActions, programmingFrom, pageActionOf, quadActionOf, actionAtOf, totalOf}
 use Rattle.update.specs.PowerFail.{Words}
-use Rattle.update.specs.LargerTotals.{recorded, Recorded, LargerTotals}
+use Rattle.update.specs.LargerTotals.{Recorded, LargerTotals}
 use Rattle.update.proofs.TargetLaws.{address-word}
 use Rattle.update.proofs.BankLaws.{page-below, quad-below}
 use Rattle.update.proofs.PlaceLaws.{page-at, rest-below}
@@ -43,16 +43,9 @@ most g ok = omega (arith, ok .boot-high, ok .program-high, ok .b-high, ok .p-hig
 
 -- ---- records
 -- what fits a record
-abbrev FitsRecord : Action → Type 0
+abbrev pub FitsRecord : Action → Type 0
 FitsRecord (Store r form value) = (r ≤ 10) × ((form ≤ 3) × (value < 2 ^ 32))
 FitsRecord Step = Unit {0}
-
--- the bytes of a store's record
-abbrev storeBytes : ℕ → ℕ → ℕ → List ℕ
-storeBytes r form value = 0 ∷ r ∷ form ∷ 0 ∷ value % 256 ∷ value / 256 % 256 ∷ value / 65536 % 256 ∷ value / 16777216 ∷ []
-
-abbrev stepBytes : List ℕ
-stepBytes = 1 ∷ 0 ∷ 0 ∷ 0 ∷ 0 ∷ 0 ∷ 0 ∷ 0 ∷ []
 
 -- each number of a list is a byte
 abbrev AllBytes : List ℕ → Type 0
@@ -65,34 +58,37 @@ byte-at [] h (suc k) = omega arith
 byte-at (b ∷ l) h zero = h .0
 byte-at (b ∷ l) h (suc k) = byte-at l (h .1) k
 
-read-back : (r form value : ℕ) → recordOf (storeBytes r form value) 0 ≡ recorded (Store r form value)
-unfolding recordOf valueOf
-read-back r form value =
+pub read-back : (a : Action) → FitsRecord a → recordOf (bytesOf (recorded a)) 0 ≡ recorded a
+unfolding recordOf valueOf bytesOf
+read-back (Store r form value) (register, (kind, word)) =
+    let number : r % 256 ≡ r = omega arith in
+    let form-byte : form % 256 ≡ form = omega arith in
+    let top : value / 16777216 % 256 ≡ value / 16777216 = omega arith in
     let bytes : value % 256 + 256 * (value / 256 % 256) + 65536 * (value / 65536 % 256 + 256 * (value / 16777216)) ≡ value = omega arith in
-    rw bytes
+    rw (number, form-byte, top, bytes)
+read-back Step h = refl
 
-store-known : (r form value : ℕ) → r ≤ 10 → form ≤ 3 → isScriptOf (storeBytes r form value) ≡ true
-unfolding isScriptOf isRecordOf isStoreOf
-store-known r form value register kind = rw (read-back r form value, le-leb r 10 register, le-leb form 3 kind)
+pub known : (a : Action) → FitsRecord a → isRecordOf (recorded a) ≡ true
+unfolding isRecordOf isStoreOf isStepOf
+known (Store r form value) (register, (kind, word)) = rw (le-leb r 10 register, le-leb form 3 kind)
+known Step h = refl
+
+all-bytes : (a : Action) → AllBytes (bytesOf (recorded a))
+unfolding bytesOf
+all-bytes a = (omega arith, (omega arith, (omega arith, (omega arith, (omega arith, (omega arith, (omega arith, (omega arith, tt))))))))
+
+pub record-bytes : (a : Action) (k : ℕ) → getD (bytesOf (recorded a)) k 0 < 256
+record-bytes a = byte-at (bytesOf (recorded a)) (all-bytes a)
 
 fit-recorded : (a : Action) → FitsRecord a → Recorded a
-unfolding isScriptOf isRecordOf isStepOf recordOf valueOf
-fit-recorded (Store r form value) (register, (kind, word)) =
-    let small : AllBytes (storeBytes r form value) =
-    (omega arith, (omega arith, (omega arith, (omega arith, (omega arith, (omega arith, (omega arith, (omega arith, tt))))))))
-    in
+unfolding isScriptOf bytesOf
+fit-recorded a fits =
     record {
-      script = storeBytes r form value;
       eight = refl;
-      bytes = byte-at (storeBytes r form value) small;
-      known = store-known r form value register kind;
-      says = read-back r form value;
+      bytes = record-bytes a;
+      known = rw (read-back a fits, known a fits);
+      says = read-back a fits;
     }
-fit-recorded Step h =
-    let small : AllBytes stepBytes =
-    (omega arith, (omega arith, (omega arith, (omega arith, (omega arith, (omega arith, (omega arith, (omega arith, tt))))))))
-    in
-    record { script = stepBytes; eight = refl; bytes = byte-at stepBytes small; known = refl; says = refl }
 
 -- ---- actions
 -- numbers that are written out
@@ -180,7 +176,7 @@ module _ (g : Geometry) (ok : InRange g) where
       )
       k
 
-  action-fits : (image : List ℕ) → Words image → (w place : ℕ) → place < totalOf g → FitsRecord (actionAtOf g image w place)
+  pub action-fits : (image : List ℕ) → Words image → (w place : ℕ) → place < totalOf g → FitsRecord (actionAtOf g image w place)
   unfolding actionAtOf
   action-fits image words w place l = head (ltb place 12) refl
     where

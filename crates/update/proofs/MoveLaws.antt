@@ -61,7 +61,7 @@ use Rattle.update.proofs.StartLaws.{CanStart, accepted-again, declined-
 use Rattle.update.proofs.PowerFail.{new-wins, kept, rested-runs}
 use Rattle.update.proofs.WordLaws.{chosenOf}
 
-turns-append : (g : Geometry) (image : List ℕ) (p : Position) (first other : List (List ℕ))
+pub turns-append : (g : Geometry) (image : List ℕ) (p : Position) (first other : List (List ℕ))
     → turnsOf g image p (first ++ other) ≡ turnsOf g image (turnsOf g image p first) other
 turns-append g image p [] other = refl
 turns-append g image p (sram ∷ first) other = turns-append g image (turnedOf g image p sram) first other

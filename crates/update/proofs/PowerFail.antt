@@ -36,7 +36,7 @@ use Rattle.update.proofs.TurnLaws.{every-turn, turn-keeps}
 use Rattle.update.proofs.PlacedLaws.{placed, both-placed, same-placed, not-both, bank-old, bank-new}
 use Rattle.update.proofs.Blocks.{Fixed, Finished, Stands, oldWord, newBank}
 use Rattle.update.proofs.PhaseLaws.{phase-place}
-use Rattle.update.proofs.StandsLaws.{stands-within, stands-answers, stands-turns, turns-reach}
+use Rattle.update.proofs.StandsLaws.{stands-within, stands-answers, stands-turns, turns-raise}
 use Rattle.update.proofs.CutLaws.{Outcome, AfterCut, cut-leaves}
 use Rattle.update.proofs.StartLaws.{startFixed, start-stands, start-place, start-total, can-start, accepted-again}
 
@@ -275,7 +275,7 @@ power-fail g image =
       within = λ s update srams. stands-within (u g s image update) (turnsOf g image (at s 0) srams) (stands g s image update srams);
       reaches =
           λ s update srams short long.
-          turns-reach (u g s image update) (at s 0) (start-stands g s image update (old s) refl) srams short (omega arith);
+          turns-raise (u g s image update) (at s 0) (start-stands g s image update (old s) refl) srams short (omega arith) ∙ omega arith;
       turns = λ p sram. every-turn g (p .state) image sram (p .place);
       reset-declined = λ s c h. controller .declined-same g s (Operation.reset (c .sram) (c .kind) (c .mask)) h;
       start-up-declined = start-up-declined g;

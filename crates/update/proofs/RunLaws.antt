@@ -36,7 +36,7 @@ use Rattle.update.proofs.Blocks.Phase.{storing, stepping, ending, finis
 use Rattle.update.proofs.BlockActions.{store-action, step-action, end-action}
 use Rattle.update.proofs.BlockSteps.{block-codes, block-writes}
 use Rattle.update.proofs.PhaseLaws.{actionAt, phase-place}
-use Rattle.update.proofs.StandsLaws.{stands-action, stands-turn}
+use Rattle.update.proofs.StandsLaws.{stands-action, stands-turn, stands-turns, turns-raise}
 use Rattle.update.proofs.StartLaws.{startFixed, start-stands}
 use Rattle.update.proofs.ActionLaws.{actions-total, action-listed}
 
@@ -143,3 +143,16 @@ pub turns-run : (g : Geometry) (s : State) (image : List ℕ) → Update g s ima
     → afterTurns g s image srams ≡ runOf g s (operationsOf (take (placeAfter g s image srams) (actionsOf g image (lowerWordOf g s))))
 unfolding firstRun
 turns-run g s image update srams = turns-follow (startFixed g s image update (old s) refl) s (at s 0) (start-stands g s image update (old s) refl) srams refl
+
+-- and the action of its place is the list's: t is what it was at the start
+pub turns-action : (g : Geometry) (s : State) (image : List ℕ) → Update g s image → (srams : List (List ℕ)) → placeAfter g s image srams < totalOf g
+    → nextActionOf g (afterTurns g s image srams) image (placeAfter g s image srams) ≡ actionAtOf g image (lowerWordOf g s) (placeAfter g s image srams)
+turns-action g s image update srams l =
+    let u = startFixed g s image update (old s) refl in
+    stands-action u (turnsOf g image (at s 0) srams) (stands-turns u (at s 0) (start-stands g s image update (old s) refl) srams) l
+
+-- each turn with a short SRAM raises the place, up to the total
+pub turns-place : (g : Geometry) (s : State) (image : List ℕ) → Update g s image → (srams : List (List ℕ))
+    → ((i : ℕ) → length (getD srams i []) ≤ 16384) → length srams ≤ totalOf g → placeAfter g s image srams ≡ length srams
+turns-place g s image update srams short few =
+    turns-raise (startFixed g s image update (old s) refl) (at s 0) (start-stands g s image update (old s) refl) srams short (omega arith) ∙ omega arith

@@ -92,10 +92,11 @@ module _ (u : Fixed) where
   stands-turns p stands [] = stands
   stands-turns p stands (sram ∷ srams) = stands-turns (turnedOf g image p sram) (stands-turn p stands sram) srams
 
-  -- as many turns as are left reach the total
-  pub turns-reach : (p : Position) → Stands u p → (srams : List (List ℕ)) → ((i : ℕ) → length (getD srams i []) ≤ 16384) → p .place + length srams ≡ totalOf g
-      → turnsOf g image p srams .place ≡ totalOf g
-  turns-reach p stands [] short e = omega arith
-  turns-reach p stands (sram ∷ srams) short e =
+  -- each turn with a short SRAM raises the place, up to the total
+  pub turns-raise : (p : Position) → Stands u p → (srams : List (List ℕ)) → ((i : ℕ) → length (getD srams i []) ≤ 16384)
+      → p .place + length srams ≤ totalOf g → turnsOf g image p srams .place ≡ p .place + length srams
+  turns-raise p stands [] short e = omega arith
+  turns-raise p stands (sram ∷ srams) short e =
       let raised = every-turn g (p .state) image sram (p .place) .raises (stands-answers p stands sram (short 0)) (omega arith) in
-      turns-reach (turnedOf g image p sram) (stands-turn p stands sram) srams (λ i. short (suc i)) (omega arith)
+      let later = turns-raise (turnedOf g image p sram) (stands-turn p stands sram) srams (λ i. short (suc i)) (omega arith) in
+      omega (arith, later, raised)

@@ -66,7 +66,7 @@ pub record Starts (g : Geometry) (s : State) (image : List ℕ) : Type 0 where
   pub lock : hasOf (s .device .nvmbwp .0) UBWPULOCK ≡ true
   pub reach : pwpOf (s .device) < programBytesOf g
 
-starts : (g : Geometry) (s : State) (image : List ℕ) → acceptedOf (startOf g s image .decline) ≡ true → Starts g s image
+pub starts : (g : Geometry) (s : State) (image : List ℕ) → acceptedOf (startOf g s image .decline) ≡ true → Starts g s image
 unfolding startOf startDeclineOf sequenceAllowsOf upperFreeOf
 starts g s image h =
     let s0 = neither (commonDeclineOf g (s .device) (length (s .one) ∷ length (s .two) ∷ length image ∷ []) 0) _ h in

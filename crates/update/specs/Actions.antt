@@ -7,6 +7,7 @@ use Rattle.words.specs.Word.{pick}
 use Rattle.words.specs.Quad.{wordAt, quadAt}
 use Rattle.geometry.specs.declared.banks.Geometry.{Geometry}
 use Rattle.geometry.specs.Banks.{pagesOf, pageQuadsOf, bootQuadsOf}
+use Rattle.script_format.specs.declared.Record.{Record}
 use Rattle.map.specs.Windows.{upperBoot, upperProgram}
 use Rattle.sequence.specs.Sequence.{sequenceQuadOf, nextSequenceOf}
 use Rattle.start_up.specs.StartUp.{Access, access, keyStores}
@@ -99,6 +100,11 @@ programming g image w =
 -- every action of an update with an image, in order
 unfoldable pub actionsOf : Geometry → List ℕ → ℕ → List Action
 actionsOf g image w = prologue ++ (erasing g ++ programming g image w)
+
+-- "kind (0 store, 1 step ..), register .., form, 0, value": what a record of a script says of an action
+abbrev pub recorded : Action → Record
+recorded (Store r form value) = record { kind = 0; number = r; form = form; unused = 0; value = value }
+recorded Step = record { kind = 1; number = 0; form = 0; unused = 0; value = 0 }
 
 -- "Total 12 + 8×N + 112×N×Q."
 unfoldable pub totalOf : Geometry → ℕ

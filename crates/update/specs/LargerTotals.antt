@@ -4,29 +4,21 @@ use mathlib.Core.Path.{_≡_}
 use mathlib.Core.Bool.{true}
 use mathlib.Core.List.{List}
 use lib.ListN.{length, getD}
-use Rattle.script_format.specs.declared.Record.{Record}
-use Rattle.script_format.specs.Records.{recordOf, isScriptOf}
+use Rattle.script_format.specs.Records.{recordOf, bytesOf, isScriptOf}
 use Rattle.geometry.specs.declared.banks.Geometry.{Geometry}
 use Rattle.geometry.specs.Banks.{inRangeOf}
 use Rattle.geometry.specs.LargerBanks.{mostBefore}
 use Rattle.nvmop.specs.Operation.{lengthOf}
 use Rattle.update.specs.declared.actions.Action.{Action}
-use Rattle.update.specs.declared.actions.Action.the-variants.{Store, Step}
-use Rattle.update.specs.Actions.{actionAtOf, totalOf}
+use Rattle.update.specs.Actions.{recorded, actionAtOf, totalOf}
 use Rattle.update.specs.PowerFail.{Words}
 
--- "kind, register or reset kind, form, 0, value": what a record of a script says of an action; it takes no geometry
-abbrev pub recorded : Action → Record
-recorded (Store r form value) = record { kind = 0; number = r; form = form; unused = 0; value = value }
-recorded Step = record { kind = 1; number = 0; form = 0; unused = 0; value = 0 }
-
--- "a value still has 4 bytes": 8 bytes that are a script and are read as the action
+-- "a value still has 4 bytes": the record's 8 bytes are a script and are read as the action
 pub record Recorded (a : Action) : Type 0 where
-  pub script : List ℕ
-  pub eight : length script ≡ 8
-  pub bytes : (k : ℕ) → getD script k 0 < 256
-  pub known : isScriptOf script ≡ true
-  pub says : recordOf script 0 ≡ recorded a
+  pub eight : length (bytesOf (recorded a)) ≡ 8
+  pub bytes : (k : ℕ) → getD (bytesOf (recorded a)) k 0 < 256
+  pub known : isScriptOf (bytesOf (recorded a)) ≡ true
+  pub says : recordOf (bytesOf (recorded a)) 0 ≡ recorded a
 
 pub record LargerTotals : Type 0 where
   -- "the largest total becomes 1,907,764": of N = 133 pages with Q = 128, which are accepted

@@ -30,6 +30,11 @@ all-below p (suc n) h k l = go (decLe (suc k) n) (all-below p n (and-both (allBe
     go (yes i) below = below i
     go (no i) below = let e : k ≡ n = omega arith in rw e (and-both (allBelow p n) (p n) h .1)
 
+-- and what holds of each is so tested
+pub all-hold : (p : ℕ → Bool) (n : ℕ) → ((k : ℕ) → k < n → p k ≡ true) → allBelow p n ≡ true
+all-hold p zero h = refl
+all-hold p (suc n) h = rw (all-hold p n (λ k l. h k (omega arith))) (h n (omega arith))
+
 -- where it fails of one, it does not hold of every number below n
 pub not-all-below : (p : ℕ → Bool) (n k : ℕ) → k < n → p k ≡ false → allBelow p n ≡ false
 not-all-below p zero k l h = absurd (not-suc-le-zero l)

@@ -5,7 +5,8 @@ use lib.Dec.{eqb}
 use Rattle.words.specs.Word.{pick}
 use Rattle.words.specs.declared.decline.Decline.{Decline}
 use Rattle.words.specs.declared.decline.Decline.the-variants.{Accepted, Geometry, Length, Device, Register, Running, Idle, ResetKind, Address}
-use Rattle.words.specs.declared.decline.Decline.the-variants.{Busy, Sequence, LastSequence, Protection, Place, Script, Hours, NoWait, SheetBuffer, Lanes}
+use Rattle.words.specs.declared.decline.Decline.the-variants.{Busy, Sequence, LastSequence, Protection, Place, Script, Hours, NoWait}
+use Rattle.words.specs.declared.decline.Decline.the-variants.{ScriptBuffer, SheetBuffer, Lanes}
 
 abbrev pub numberOf : Decline → ℕ
 numberOf Accepted = 0
@@ -25,6 +26,7 @@ numberOf Place = 13
 numberOf Script = 14
 numberOf Hours = 15
 numberOf NoWait = 16
+numberOf ScriptBuffer = 17
 numberOf SheetBuffer = 18
 numberOf Lanes = 22
 

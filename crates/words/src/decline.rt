@@ -37,6 +37,8 @@ pub enum Decline {
     Hours,
     // 16: no wait fits.
     NoWait,
+    // 17: the buffer is shorter than the script.
+    ScriptBuffer,
     // 18: the buffer is shorter than the sheet.
     SheetBuffer,
     // 22: the two lengths differ or are no multiple of 4.
@@ -66,6 +68,7 @@ impl Decline {
             Decline::Script => 14,
             Decline::Hours => 15,
             Decline::NoWait => 16,
+            Decline::ScriptBuffer => 17,
             Decline::SheetBuffer => 18,
             Decline::Lanes => 22,
         }

@@ -40,6 +40,7 @@ use Rattle.planner.specs.Windows.{week, windowCountOf}
 use Rattle.planner.specs.Windows.{inRangeOf as inRangeAll}
 use Rattle.sheet.specs.Sheet.{sheetBytesOf, pageSheetDeclineOf, Given, pageSheetOf}
 use Rattle.lanes.specs.Lanes.{lanesDeclineOf}
+use Rattle.script_write.specs.Script.{scriptBytesOf, writeScriptDeclineOf, Writing, writeScriptOf}
 use Rattle.yohrundel.specs.NoNine.{Not9, NoNine}
 
 -- the first of two declines
@@ -156,6 +157,13 @@ lanes : (source target : ℕ) → Not9 (lanesDeclineOf source target)
 unfolding lanesDeclineOf
 lanes source target = pick-both Not9 (eqb source target && eqb (source % 4) 0) (λ e. omega arith) (λ e. omega arith)
 
+write-script : (g : Geometry) (s : State) (image buffer : List ℕ) → Not9 (writeScriptOf g s image buffer .decline)
+unfolding writeScriptOf writeScriptDeclineOf
+write-script g s image buffer =
+    pick-both (λ (a : Writing). Not9 (a .decline)) (acceptedOf (writeScriptDeclineOf g s image (length buffer))) (λ e. omega arith)
+    (first (startOf g s image .decline) _ (update-start g s image)
+    (pick-both Not9 (leb (scriptBytesOf g) (length buffer)) (λ e. omega arith) (λ e. omega arith)))
+
 pub no-nine : NoNine
 no-nine =
     record {
@@ -174,4 +182,5 @@ no-nine =
       page-sheet = page-sheet;
       plan = plan;
       lanes = lanes;
+      write-script = write-script;
     }

@@ -23,6 +23,7 @@ use Rattle.script_play.specs.Play.{Playback}
 use Rattle.update.specs.declared.start.Started.{Started}
 use Rattle.planner.specs.declared.plan.Planned.{Planned}
 use Rattle.sheet.specs.Sheet.{Given}
+use Rattle.script_write.specs.Script.{Writing}
 use Rattle.yohrundel.specs.declared.answers.EventAnswer.{EventAnswer}
 use Rattle.yohrundel.specs.declared.answers.DeviceAnswer.{DeviceAnswer}
 use Rattle.yohrundel.specs.declared.answers.ResetAnswer.{ResetAnswer}
@@ -36,6 +37,7 @@ use Rattle.yohrundel.specs.declared.answers.PlayAnswer.{PlayAnswer}
 use Rattle.yohrundel.specs.declared.answers.PlayLengthAnswer.{PlayLengthAnswer}
 use Rattle.yohrundel.specs.declared.answers.PlanAnswer.{PlanAnswer}
 use Rattle.yohrundel.specs.declared.answers.PageSheetAnswer.{PageSheetAnswer}
+use Rattle.yohrundel.specs.declared.answers.WriteScriptAnswer.{WriteScriptAnswer}
 
 -- ---- calls that lend nothing for writing: the answer is the definition's result
 
@@ -102,3 +104,6 @@ PlayGives a r one two buffer =
 
 abbrev pub PageSheetGives : Given → PageSheetAnswer → List ℕ → Type 0
 PageSheetGives a r buffer = (r ≡ record { decline = numberOf (a .decline); bytes = a .bytes }) × (buffer ≡ a .buffer)
+
+abbrev pub WriteScriptGives : Writing → WriteScriptAnswer → List ℕ → Type 0
+WriteScriptGives a r buffer = (r ≡ record { decline = numberOf (a .decline); records = a .records }) × (buffer ≡ a .buffer)

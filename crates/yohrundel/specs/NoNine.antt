@@ -20,6 +20,7 @@ use Rattle.update.specs.Turn.{turnOf}
 use Rattle.planner.specs.Planner.{planOf}
 use Rattle.sheet.specs.Sheet.{pageSheetOf}
 use Rattle.lanes.specs.Lanes.{lanesDeclineOf}
+use Rattle.script_write.specs.Script.{writeScriptOf}
 
 abbrev pub Not9 : Decline → Type 0
 Not9 d = numberOf d ≡ 9 → ⊥
@@ -41,3 +42,4 @@ pub record NoNine : Type 0 where
   pub page-sheet : (g : Geometry) (d : Device) (one two buffer : List ℕ) → Not9 (pageSheetOf g d one two buffer .decline)
   pub plan : (minute duration : ℕ) (windows : List ℕ) → Not9 (planOf minute duration windows .decline)
   pub lanes : (source target : ℕ) → Not9 (lanesDeclineOf source target)
+  pub write-script : (g : Geometry) (s : State) (image buffer : List ℕ) → Not9 (writeScriptOf g s image buffer .decline)

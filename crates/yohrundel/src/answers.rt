@@ -100,3 +100,9 @@ pub struct PageSheetAnswer {
     pub decline: u32,
     pub bytes: usize,
 }
+
+#[repr(C)]
+pub struct WriteScriptAnswer {
+    pub decline: u32,
+    pub records: u32,
+}

@@ -1,14 +1,17 @@
-// The exported calls that play a script.
+// The exported calls that play a script, and that write an update's.
 ghost use mathlib.Core.Path.{_≡_};
 ghost use Rattle.device.specs.State.{lent};
 ghost use Rattle.script_play.specs.Play.{playOf, playLengthOf};
-ghost use Rattle.yohrundel.specs.Answers.{playLengthAnswerOf, PlayGives};
+ghost use Rattle.script_write.specs.Script.{writeScriptOf};
+ghost use Rattle.yohrundel.specs.Answers.{playLengthAnswerOf, PlayGives, WriteScriptGives};
 use crate::answers::PlayAnswer;
 use crate::answers::PlayLengthAnswer;
+use crate::answers::WriteScriptAnswer;
 use device::record::Device;
 use geometry::banks::Geometry;
 use script_play::play;
 use script_play::play_length;
+use script_write::write_script;
 
 #[no_mangle]
 pub extern "C" fn yohrundel_play_2(
@@ -49,5 +52,25 @@ pub extern "C" fn yohrundel_play_length_2(
     PlayLengthAnswer {
         decline: decline.number(),
         bytes: a.bytes,
+    }
+}
+
+// Writes every action of an update as a record into a buffer.
+#[no_mangle]
+pub extern "C" fn yohrundel_write_script(
+    g: Geometry,
+    d: Device,
+    one: &[u32],
+    two: &[u32],
+    image: &[u32],
+    out: &mut [u8],
+) -> WriteScriptAnswer
+    ensures { λ r. ⌜ WriteScriptGives (writeScriptOf g (lent d (one .entry) (two .entry)) (now (image .entry)) (now (out .entry))) r (now (out .exit)) ⌝ }
+{
+    let a = write_script(g, d, one, two, image, out);
+    let decline = a.decline;
+    WriteScriptAnswer {
+        decline: decline.number(),
+        records: a.records,
     }
 }

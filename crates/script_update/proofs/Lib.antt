@@ -1,0 +1,3 @@
+pub mod ReadLaws
+pub mod PlayLaws
+pub mod WrittenScript
