@@ -73,7 +73,7 @@ pub fn play(bytes: &[u8]) -> String {
         return refused_script();
     }
     match records(bytes) {
-        Ok(records) => play_records(&records),
+        Ok(records) => play_on_the_bench(&records),
         Err(_) => refused_script(),
     }
 }
@@ -83,7 +83,7 @@ fn refused_script() -> String {
 }
 
 /// "all ones but bank 1's sequence word 0xFFFE0001, no SRAM, after power-on".
-fn play_records(records: &[Record]) -> String {
+fn play_on_the_bench(records: &[Record]) -> String {
     let geometry = Geometry {
         row_quads: 1,
         boot_pages: 1,
@@ -97,11 +97,22 @@ fn play_records(records: &[Record]) -> String {
         two: &mut two,
     };
     let mut device = Device::reset_values();
+    play_records(PLAY_NUMBERS, &mut device, &mut banks, &[], records)
+}
+
+/// Plays records on a sign of any sizes; gives what is printed.
+pub fn play_records(
+    numbers: [u32; 3],
+    device: &mut Device,
+    banks: &mut Banks,
+    sram: &[u32],
+    records: &[Record],
+) -> String {
     let mut text = String::new();
     for (number, record) in records.iter().enumerate() {
-        let (answer, event) = match play_record(device, &mut banks, record) {
+        let (answer, event) = match play_record(numbers, *device, banks, sram, record) {
             Ok((after, event)) => {
-                device = after;
+                *device = after;
                 (0, event)
             }
             Err(refusal) => (refusal.number(), false),
@@ -113,17 +124,23 @@ fn play_records(records: &[Record]) -> String {
     text
 }
 
-/// The device after a record on the bench, and whether there was an event.
-pub fn play_record(device: Device, banks: &mut Banks, record: &Record) -> Answer<(Device, bool)> {
+/// The device after a record, and whether there was an event. "Resets use mask 0."
+pub fn play_record(
+    numbers: [u32; 3],
+    device: Device,
+    banks: &mut Banks,
+    sram: &[u32],
+    record: &Record,
+) -> Answer<(Device, bool)> {
     match *record {
         Record::Store {
             register,
             form,
             value,
-        } => store(PLAY_NUMBERS, device, register.into(), form.into(), value),
-        Record::Step => step(PLAY_NUMBERS, device, banks, &[]),
+        } => store(numbers, device, register.into(), form.into(), value),
+        Record::Step => step(numbers, device, banks, sram),
         Record::Reset { kind } => {
-            let after = reset(PLAY_NUMBERS, device, banks, &[], kind.into(), [0; 4])?;
+            let after = reset(numbers, device, banks, sram, kind.into(), [0; 4])?;
             Ok((after.device, false))
         }
     }

@@ -1,14 +1,10 @@
 //! A play as a case: the model's answer, record by record.
 
-use std::fmt::Write;
-
 use model::cases::{Call, Case};
-use model::device::{check_device, Device, NVMCON};
-use model::flash::{reset, step};
+use model::device::{check_device, Device};
 use model::geometry::{check_sram, Banks, Geometry};
 use model::list::List;
-use model::script::{records, Record};
-use model::store::store;
+use model::script::{play_records, records};
 use model::Answer;
 
 use crate::case::check;
@@ -59,18 +55,8 @@ impl Bench {
         banks.check(&geometry)?;
         check_sram(&sram)?;
         check_device(&geometry, &self.0.device)?;
-        let (mut device, mut output) = (self.0.device, String::new());
-        for (number, record) in records(script)?.into_iter().enumerate() {
-            let (answer, event) = match play_record(numbers, device, &mut banks, &sram, record) {
-                Ok((after, event)) => {
-                    device = after;
-                    (0, event)
-                }
-                Err(refusal) => (refusal.number(), false),
-            };
-            let (con, event) = (device.registers[NVMCON], u32::from(event));
-            writeln!(output, "{number} {answer} {con:08X} {event}").expect("a string takes all");
-        }
+        let (mut device, records) = (self.0.device, records(script)?);
+        let output = play_records(numbers, &mut device, &mut banks, &sram, &records);
         let banks = [one, two];
         Ok(Playback {
             device,
@@ -122,28 +108,6 @@ impl Bench {
         }
         let words: Vec<String> = numbers.iter().map(u32::to_string).collect();
         words.join(" ")
-    }
-}
-
-fn play_record(
-    numbers: [u32; 3],
-    device: Device,
-    banks: &mut Banks,
-    sram: &[u32],
-    record: Record,
-) -> Answer<(Device, bool)> {
-    match record {
-        Record::Store {
-            register,
-            form,
-            value,
-        } => store(numbers, device, register.into(), form.into(), value),
-        Record::Step => step(numbers, device, banks, sram),
-        // "Resets use mask 0."
-        Record::Reset { kind } => {
-            let after = reset(numbers, device, banks, sram, kind.into(), [0; 4])?;
-            Ok((after.device, false))
-        }
     }
 }
 

@@ -42,7 +42,7 @@ fn random_scripts_on_random_benches() {
     report.finish(format_args!("{count} scripts"));
 }
 
-/// Every one is also played by the model's own play program.
+/// The bench here is that of the model's own play program.
 fn check_on_the_program_bench(random: &mut Random, script: &[u8]) {
     let bench = Bench::of_the_program();
     let printed = bench.play(script).map_or_else(
@@ -50,7 +50,7 @@ fn check_on_the_program_bench(random: &mut Random, script: &[u8]) {
         |played| played.output,
     );
     if script.len() <= BYTE_LIMIT {
-        assert_eq!(printed, play(script), "the two plays of the model");
+        assert_eq!(printed, play(script), "the two benches of the model");
     }
     check(random, &bench, script);
 }

@@ -3,7 +3,7 @@
 use model::device::{protected, Device};
 use model::flash::{flash_read, reset};
 use model::geometry::{Bank, Banks, Geometry, Kind, Side};
-use model::script::{play_record, Record};
+use model::script::{play_records, Record};
 use model::sequence::{new_quad, Reason};
 use model::store::start_up;
 use model::update::{turn, update_start};
@@ -74,15 +74,11 @@ impl Sign {
         }
     }
 
-    /// Plays records. One that is refused changes nothing.
-    pub fn play(&mut self, records: &[Record]) {
+    /// Plays records; gives what is printed.
+    pub fn play(&mut self, records: &[Record]) -> String {
         let [one, two] = &mut self.banks;
         let mut banks = Banks { one, two };
-        for record in records {
-            if let Ok((device, _)) = play_record(self.device, &mut banks, record) {
-                self.device = device;
-            }
-        }
+        play_records(self.numbers, &mut self.device, &mut banks, &[], records)
     }
 
     /// A reset and a start-up; the bank that runs.
