@@ -11,6 +11,7 @@ mod record_edges;
 mod scripts;
 mod sheets;
 mod walks;
+mod write_scripts;
 
 pub use memory::{old_bank_one, random_image};
 pub use places::{accepted_start, Start};
@@ -40,7 +41,7 @@ impl Cases {
     }
 
     /// Cases of the calls that later requests added; one page sheet in sixteen has long rows
-    /// whatever the bound is, and few words that differ.
+    /// whatever the bound is, and few words that differ. Few long scripts get a buffer that takes them.
     pub fn of_requests(seed: u64, max_words: u32) -> Cases {
         Cases::of(&SHAPES[BASE..], seed, max_words)
     }

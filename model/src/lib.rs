@@ -18,6 +18,7 @@ pub mod sequence;
 pub mod sheet;
 pub mod store;
 pub mod update;
+pub mod write_script;
 
 /// Why a call is declined, with the paper's numbers.
 #[derive(Clone, Copy, Debug, PartialEq, Eq)]
@@ -39,6 +40,7 @@ pub enum Refusal {
     Script = 14,
     WeekRange = 15,
     NoWait = 16,
+    ScriptBuffer = 17,
     SheetBuffer = 18,
     LaneLengths = 22,
 }

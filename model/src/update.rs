@@ -155,7 +155,7 @@ fn program_action(address: u32, quad: [u32; 4], number: u32) -> Action {
 }
 
 /// t: "the low half of the lower-alias bank's sequence word".
-fn lower_half_now(geometry: &Geometry, device: &Device, banks: &Banks) -> u16 {
+pub fn lower_half_now(geometry: &Geometry, device: &Device, banks: &Banks) -> u16 {
     let words = banks.words(device.lower_alias_bank());
     low_half(words[geometry.sequence_index()])
 }

@@ -3,10 +3,11 @@
 use std::collections::{BTreeMap, BTreeSet};
 
 use model::cases::{answer_line, Call, Case, SHAPES};
-use model::device::{possible, Device, Operands, WRERR};
+use model::device::{possible, Device, Operands, BFSWAP, WRERR};
 use model::generate::{line, request_lines, script, Cases, MOST_WORDS};
 use model::geometry::Geometry;
 use model::script::{play, records};
+use model::write_script::script_bytes;
 
 /// The declines of each call.
 fn declines(call: Call) -> &'static [u32] {
@@ -26,6 +27,7 @@ fn declines(call: Call) -> &'static [u32] {
         Call::Plan => &[15, 16],
         Call::PageSheet => &[1, 2, 3, 18],
         Call::LanesOut | Call::LanesBack => &[22],
+        Call::WriteScript => &[1, 2, 3, 5, 10, 11, 12, 17],
     }
 }
 
@@ -73,7 +75,8 @@ fn a_seed_keeps_its_lines() {
     assert_eq!(sum, 416_249_257);
 }
 
-/// Sheets of every Q, under all four mappings, of idle and running devices; plans of few and many windows.
+/// Sheets of every Q, under all four mappings, of idle and running devices; plans of few and many windows; scripts for both old
+/// banks into buffers of their length and longer.
 #[test]
 fn requests_vary() {
     let mut seen = BTreeSet::new();
@@ -86,13 +89,18 @@ fn requests_vary() {
                 seen.insert(format!("mapping {}", device.registers[0] & 0xC0));
                 seen.insert(format!("running {}", device.running()));
             }
+            Call::WriteScript if accepted => {
+                let geometry = Geometry::new(case.geometry).unwrap();
+                let longer = case.lists[3].length > script_bytes(&geometry) as usize;
+                seen.insert(format!("script {} {longer}", case.device.con(BFSWAP)));
+            }
             Call::Plan => {
                 seen.insert(format!("windows {}", case.numbers[2].min(15)));
             }
             _ => {}
         }
     }
-    assert_eq!(seen.len(), 8 + 4 + 2 + 16, "{seen:?}");
+    assert_eq!(seen.len(), 8 + 4 + 2 + 16 + 4, "{seen:?}");
 }
 
 /// Running devices that were and were not loaded since their launch; impossible ones by what was launched alone.

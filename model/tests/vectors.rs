@@ -56,6 +56,8 @@ fn lines_that_are_no_case_of_a_request() {
     assert_eq!(answer_line("plan 5 1 0"), "15");
     assert_eq!(answer_line("lanes_out 4 7 0 4 0 1 3 7"), "0 3 0 7 1 7 2 7");
     assert_eq!(answer_line(&format!("{sheet} 67 255 0")), "18");
+    let script = format!("write_script 1 1 1 {device} 64 0 1 28 4294836225 64 4294967295 0 64 0 0");
+    assert_eq!(answer_line(&format!("{script} 2015 0 0")), "17");
     for line in [
         "plan",
         "plan 5 1",
@@ -73,6 +75,10 @@ fn lines_that_are_no_case_of_a_request() {
         "valid_by_sum",
         "valid_by_sum 65535 0",
         &sheet,
+        &script,
+        &format!("{script} 2016 256 0"),
+        &format!("{script} 2016 0 1 0 256"),
+        &format!("{script} 2016 0 0 0"),
         &format!("{sheet} 67 256 0"),
         &format!("{sheet} 67 0 1 0 256"),
     ] {

@@ -5,13 +5,14 @@ use crate::geometry::Banks;
 use crate::lanes::{lanes_back, lanes_out};
 use crate::plan::{plan, Window};
 use crate::sheet::page_sheet;
+use crate::write_script::write_script;
 use crate::Answer;
 
 impl Case {
     pub(super) fn answer_request(&self) -> Answer<Vec<u32>> {
         match self.call {
             Call::Plan => self.answer_plan(),
-            Call::PageSheet => self.answer_page_sheet(),
+            Call::PageSheet | Call::WriteScript => self.answer_written(),
             _ => self.answer_lanes(),
         }
     }
@@ -28,16 +29,24 @@ impl Case {
         Ok(vec![plan(self.numbers[0], self.numbers[1], &windows)?])
     }
 
-    fn answer_page_sheet(&self) -> Answer<Vec<u32>> {
+    /// What is written about a sign into the buffer, the last list; first its length, or how many records it has.
+    fn answer_written(&self) -> Answer<Vec<u32>> {
         let (mut one, mut two) = (self.lists[0].words(), self.lists[1].words());
         let banks = Banks {
             one: &mut one,
             two: &mut two,
         };
-        let before = self.lists[2].bytes();
+        let before = self.lists[self.lists.len() - 1].bytes();
         let mut buffer = before.clone();
-        let length = page_sheet(self.geometry, &self.device, &banks, &mut buffer)?;
-        let mut outputs = vec![length];
+        let (geometry, device) = (self.geometry, &self.device);
+        let count = match self.call {
+            Call::PageSheet => page_sheet(geometry, device, &banks, &mut buffer)?,
+            _ => {
+                let image = self.lists[2].words();
+                write_script(geometry, device, &banks, &image, &mut buffer)?
+            }
+        };
+        let mut outputs = vec![count];
         outputs.extend(byte_changes(&before, &buffer));
         Ok(outputs)
     }

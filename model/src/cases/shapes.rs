@@ -22,6 +22,7 @@ pub enum Call {
     ValidBySum,
     Walk,
     CompareReason,
+    WriteScript,
 }
 
 /// The inputs of a call, in the order in which a line gives them.
@@ -68,7 +69,7 @@ const fn shape(
 }
 
 /// The calls of the base stand first, those of later requests follow.
-pub const SHAPES: [Shape; 20] = [
+pub const SHAPES: [Shape; 21] = [
     shape(Call::Compare, "compare", false, false, 0, 2),
     shape(Call::Possible, "possible", true, true, 0, 0),
     shape(Call::Protected, "protected", true, true, 0, 3),
@@ -104,6 +105,10 @@ pub const SHAPES: [Shape; 20] = [
         ..shape(Call::Walk, "walk", true, true, 3, 0)
     },
     shape(Call::CompareReason, "compare_reason", false, false, 0, 2),
+    Shape {
+        bytes: 1,
+        ..shape(Call::WriteScript, "write_script", true, true, 4, 0)
+    },
 ];
 
 /// How many calls the base has.

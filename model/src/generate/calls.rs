@@ -16,6 +16,7 @@ use super::places::{self, Start};
 use super::plans::plan_case;
 use super::sheets::page_sheet_case;
 use super::walks::walk_case;
+use super::write_scripts::put_script_buffer;
 use super::MOST_WORDS;
 
 /// How seldom one input is spoiled: once in this many cases.
@@ -63,6 +64,10 @@ fn fill_case(random: &mut Random, geometry: &Geometry, case: &mut Case) {
         Call::PageSheet => page_sheet_case(random, geometry, case),
         Call::LanesOut | Call::LanesBack => lanes_case(random, case),
         Call::Walk => walk_case(random, geometry, case),
+        Call::WriteScript => {
+            update_start_case(random, geometry, case);
+            put_script_buffer(random, geometry, case);
+        }
         Call::ValidBySum => case.numbers = vec![memory::sequence_word(random)],
     }
 }
