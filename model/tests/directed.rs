@@ -4,7 +4,7 @@ use std::collections::{BTreeMap, BTreeSet};
 
 use model::cases::{answer_line, Call, Case};
 use model::device::{WR, WRERR};
-use model::generate::directed::{cases, ordered, ordered_sheets, request_cases};
+use model::generate::directed::{cases, ordered, ordered_sheets, ordered_writes, request_cases};
 use model::generate::{line, record_edges, refused_scripts};
 use model::script::play;
 
@@ -146,6 +146,7 @@ const EXPECTED: &[(&str, &str, &str)] = &[
     ("waits", "startup", "accepted"),
     ("waits", "update_start", "accepted 10"),
     ("waits", "walk", "written untouched"),
+    ("writes", "write_script", "accepted 1 2 3 5 10 11 12 17"),
 ];
 
 #[test]
@@ -188,7 +189,7 @@ fn no_call_is_declined_with_9() {
 
 #[test]
 fn the_lowest_decline_is_given() {
-    for (lowest, case) in ordered().into_iter().chain(ordered_sheets()) {
+    for (lowest, case) in [ordered(), ordered_sheets(), ordered_writes()].concat() {
         assert_eq!(numbers(&case)[0], lowest, "{}", case.inputs());
     }
 }

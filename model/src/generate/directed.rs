@@ -26,9 +26,11 @@ mod swaps;
 mod tears;
 mod updates;
 mod waits;
+mod writes;
 
 pub use orders::ordered;
 pub use sheets::ordered_sheets;
+pub use writes::ordered_writes;
 
 use std::collections::HashSet;
 
@@ -64,7 +66,7 @@ pub const SUBJECTS: [Subject; 16] = [
 ];
 
 /// Subjects of the calls that later requests added.
-pub const REQUEST_SUBJECTS: [Subject; 8] = [
+pub const REQUEST_SUBJECTS: [Subject; 9] = [
     subject("plans", plans::cases),
     subject("sheets", sheets::cases),
     subject("lanes", lanes::cases),
@@ -73,6 +75,7 @@ pub const REQUEST_SUBJECTS: [Subject; 8] = [
     subject("reasons", reasons::cases),
     subject("loads", loads::cases),
     subject("waits", waits::cases),
+    subject("writes", writes::cases),
 ];
 
 /// The cases of the base's subjects.

@@ -57,18 +57,9 @@ pub fn ordered() -> Vec<(u32, Case)> {
 
 fn update_starts() -> Vec<(u32, Case)> {
     let banks = blank(&SMALL);
-    let causes = [
-        GEOMETRY,
-        (2, &[longer, image_shorter]),
-        (3, &[key_step_four]),
-        (5, &[runs_in_boot_pages]),
-        (10, &[other_word_zero, swaps_differ]),
-        (11, &[last_sequence]),
-        (12, &[upper_locked, region_protected]),
-    ];
     combined(
         update_start(&SMALL, idle(), &banks, &vec![0; banks[0].len()]),
-        &causes,
+        &START,
     )
 }
 
@@ -116,6 +107,16 @@ pub const GEOMETRY: Cause = (1, &[three_quads]);
 pub const LENGTHS: Cause = (2, &[longer, second_shorter]);
 const MEMORY: Cause = (2, &[longer, second_shorter, long_sram]);
 pub const DEVICE: Cause = (3, &[key_step_four, step_far]);
+/// The declines of an update start of the smallest sign.
+pub const START: [Cause; 7] = [
+    GEOMETRY,
+    (2, &[longer, image_shorter]),
+    (3, &[key_step_four]),
+    (5, &[runs_in_boot_pages]),
+    (10, &[other_word_zero, swaps_differ]),
+    (11, &[last_sequence]),
+    (12, &[upper_locked, region_protected]),
+];
 const REGISTER: Cause = (4, &[register_eleven]);
 const RUNNING: Cause = (5, &[runs]);
 const IDLE: Cause = (6, &[idles]);

@@ -57,7 +57,7 @@ pub const UNPROTECTED: u32 = LBWPULOCK | BWP_ALWAYS | UBWPULOCK;
 /// Both banks.
 pub type Pair = [Vec<u32>; 2];
 
-pub fn geometry(row_quads: u32, boot_pages: u32, program_pages: u32) -> Geometry {
+pub const fn geometry(row_quads: u32, boot_pages: u32, program_pages: u32) -> Geometry {
     Geometry {
         row_quads,
         boot_pages,
@@ -318,6 +318,19 @@ pub fn page_sheet(geometry: &Geometry, device: Device, banks: &Pair, buffer: &[u
     case
 }
 
+pub fn write_script(
+    geometry: &Geometry,
+    device: Device,
+    banks: &Pair,
+    image: &[u32],
+    buffer: &[u8],
+) -> Case {
+    let mut case = update_start(geometry, device, banks, image);
+    case.call = Call::WriteScript;
+    case.lists.push(List::from_bytes(buffer));
+    case
+}
+
 /// Both ways, from the same source to the same target.
 pub fn lanes(source: &[u8], target: &[u8]) -> [Case; 2] {
     [Call::LanesOut, Call::LanesBack].map(|call| {
@@ -330,9 +343,12 @@ pub fn lanes(source: &[u8], target: &[u8]) -> [Case; 2] {
 /// The lists that are as long as a bank: all but the SRAM and a buffer.
 pub fn bank_lists(case: &mut Case) -> &mut [List] {
     let count = match case.call {
-        Call::FlashRead | Call::Step | Call::Reset | Call::Turn | Call::PageSheet => {
-            case.lists.len() - 1
-        }
+        Call::FlashRead
+        | Call::Step
+        | Call::Reset
+        | Call::Turn
+        | Call::PageSheet
+        | Call::WriteScript => case.lists.len() - 1,
         _ => case.lists.len(),
     };
     &mut case.lists[..count]

@@ -4,7 +4,7 @@ mod signs;
 mod starts;
 mod turns;
 
-pub use signs::Sign;
+pub use signs::{Sign, OLD};
 
 use crate::cases::Case;
 

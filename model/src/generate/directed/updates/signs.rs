@@ -87,6 +87,12 @@ impl Sign {
         update_start(&self.geometry, self.device, &self.banks, &self.image)
     }
 
+    /// The update written into a buffer.
+    pub fn write(&self, buffer: &[u8]) -> Case {
+        let (geometry, device) = (&self.geometry, self.device);
+        write_script(geometry, device, &self.banks, &self.image, buffer)
+    }
+
     pub fn turn(&self, place: u32) -> Case {
         self.turn_with(&[], place)
     }
