@@ -20,8 +20,8 @@
  *   - a pointer that does not point to as many words, bytes or windows as the count beside it says, or is not aligned for them;
  *     a null pointer goes with the count 0 only, and the device of yohrundel_turn_lent is never null;
  *   - lent memory that overlaps other lent memory where one of the two is written: the two banks, the device of yohrundel_turn_lent,
- *     the buffers of yohrundel_play and yohrundel_page_sheet and the target of byte lanes are; where both are only read, they may
- *     overlap;
+ *     the buffers of yohrundel_play, yohrundel_page_sheet and yohrundel_write_script and the target of byte lanes are; where both are
+ *     only read, they may overlap;
  *   - lent memory that another thread changes during the call.
  *
  * Sizes
@@ -52,6 +52,9 @@ extern "C" {
 
 /* Bytes of a page sheet. */
 #define YOHRUNDEL_SHEET_BYTES(b, p) (34 * ((b) + (p)))
+
+/* Bytes of the script that an update is written as: 8 for each of its actions. */
+#define YOHRUNDEL_SCRIPT_BYTES(q, b, p) (8 * (12 + 8 * ((b) + (p)) + 112 * ((b) + (p)) * (q)))
 
 /* The most windows of a plan. */
 #define YOHRUNDEL_MOST_WINDOWS 14
@@ -109,6 +112,8 @@ enum yohrundel_decline {
     YOHRUNDEL_DECLINE_HOURS = 15,
     /* A plan that no wait fits. */
     YOHRUNDEL_DECLINE_NO_WAIT = 16,
+    /* A buffer that is shorter than the script of an update, 8 bytes for each of its actions. */
+    YOHRUNDEL_DECLINE_SCRIPT_BUFFER = 17,
     /* A buffer that is shorter than the page sheet. */
     YOHRUNDEL_DECLINE_SHEET_BUFFER = 18,
     /* Byte lanes whose source and target differ in length, or have no multiple of 4 bytes. */
@@ -334,6 +339,13 @@ typedef struct yohrundel_play_length_answer {
     size_t bytes;
 } yohrundel_play_length_answer;
 
+/* The answer to a script that is written. */
+typedef struct yohrundel_write_script_answer {
+    uint32_t decline;
+    /* The records of the script, which are the update's total; 0 where declined. */
+    uint32_t records;
+} yohrundel_write_script_answer;
+
 /* A window of a garage's hours. */
 typedef struct yohrundel_window {
     /* Its first minute, 0 to 10,079. */
@@ -361,7 +373,8 @@ typedef struct yohrundel_page_sheet_answer {
  *
  * Since the device record has launched, these calls have new symbols: an object file that was compiled with the record as it was before
  * does not link with these archives, where its device would be too short. The flash read has another one since it is lent the SRAM, may
- * change the banks and gives a device. Programs call them by their names, and are compiled again.
+ * change the banks and gives a device. Programs call them by their names, and are compiled again. yohrundel_write_script, which came
+ * later, never had another record.
  */
 #define yohrundel_power_on yohrundel_power_on_2
 #define yohrundel_store yohrundel_store_2
@@ -497,7 +510,7 @@ yohrundel_turn_outcome yohrundel_turn_lent(
     uint32_t place);
 
 /*
- * ---- calls that play a service script
+ * ---- calls that play and write a service script
  *
  * A record of the script has 8 bytes: kind (0 store, 1 step, 2 reset), register or reset kind, form, 0, value little-endian; unused bytes
  * are 0. Resets use mask 0. A record's line is its number from 0, its answer, NVMCON in eight hexadecimal capitals and the event, 0 or 1,
@@ -523,6 +536,25 @@ yohrundel_play_length_answer yohrundel_play_length(
     const uint32_t *two, size_t two_words,
     const uint32_t *sram, size_t sram_words,
     const uint8_t *script, size_t script_bytes);
+
+/*
+ * Writes a whole update as a script: each of its actions, in order, as a record, from the first byte of out on. Bytes past the last record
+ * keep their contents. It changes nothing else, and carries nothing out. Declines as yohrundel_update_start, 1, 2, 3, 5, 10, 11 and 12, and
+ * after these 17.
+ *
+ * On the same device and banks the play of the script is the update: each record answers 0, and after i records stands what i turns leave.
+ * So all that is proved of a supply that fails during an update (docs/POWER-FAIL.md) holds while the script is played.
+ *
+ * What is written depends on the geometry, the image and T alone, the low half of the sequence word of the bank on the lower alias. So one
+ * script serves every sign whose update start is accepted and whose T is the same. A play checks none of the start's conditions: on any
+ * other sign nothing is promised of it. Ask yohrundel_update_start there before the play.
+ */
+yohrundel_write_script_answer yohrundel_write_script(
+    yohrundel_geometry g, yohrundel_device d,
+    const uint32_t *one, size_t one_words,
+    const uint32_t *two, size_t two_words,
+    const uint32_t *image, size_t image_words,
+    uint8_t *out, size_t out_bytes);
 
 /*
  * ---- the call for garage hours

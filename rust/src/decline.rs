@@ -38,6 +38,8 @@ pub enum Decline {
     Hours = 15,
     /// No wait fits a plan.
     NoWait = 16,
+    /// A buffer that is shorter than the script of an update, 8 bytes for each of its actions.
+    ScriptBuffer = 17,
     /// A buffer that is shorter than the page sheet.
     SheetBuffer = 18,
     /// Byte lanes whose source and target differ in length, or have no multiple of 4 bytes.
@@ -46,7 +48,7 @@ pub enum Decline {
 
 impl Decline {
     /// All of them, in the order of their numbers.
-    pub const ALL: [Decline; 18] = [
+    pub const ALL: [Decline; 19] = [
         Decline::Geometry,
         Decline::Length,
         Decline::Device,
@@ -63,6 +65,7 @@ impl Decline {
         Decline::Script,
         Decline::Hours,
         Decline::NoWait,
+        Decline::ScriptBuffer,
         Decline::SheetBuffer,
         Decline::Lanes,
     ];
@@ -90,6 +93,7 @@ impl Decline {
             Decline::Script => "the script is malformed",
             Decline::Hours => "a number of the plan is out of range",
             Decline::NoWait => "no wait fits",
+            Decline::ScriptBuffer => "the buffer is shorter than the script",
             Decline::SheetBuffer => "the buffer is shorter than the sheet",
             Decline::Lanes => "the two lengths differ or are no multiple of 4",
         }

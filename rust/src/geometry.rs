@@ -42,6 +42,12 @@ impl Geometry {
         Ok(34 * self.pages()?)
     }
 
+    /// The bytes of the script that an update is written as, 8 for each of its actions: 8×(12 + 8×N + 112×N×Q).
+    pub fn script_bytes(self) -> Result<usize, Decline> {
+        let pages = self.pages()?;
+        Ok(8 * (12 + 8 * pages + 112 * pages * self.q as usize))
+    }
+
     /// Decline 1, asked of the library: no bank has 0 words, so a page of one is declined by 1 or by 2.
     fn judge(self) -> Result<(), Decline> {
         match Decline::judge(ffi::page(self, &[], 0).decline) {

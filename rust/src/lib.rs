@@ -47,6 +47,6 @@ pub use geometry::Geometry;
 pub use lanes::{lanes_back, lanes_out};
 pub use numbers::{form, nvmcon, register, reset_kind};
 pub use plan::plan;
-pub use script_calls::{play, play_length, Played};
+pub use script_calls::{play, play_length, write_script, Played};
 pub use sheet::page_sheet;
 pub use update_calls::{turn, turn_lent, update_start, Started, TurnOutcome, Turned};

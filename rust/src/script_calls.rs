@@ -1,4 +1,4 @@
-//! Calls that play a service script: records of 8 bytes, and a line of output for each.
+//! Calls that play and write a service script: records of 8 bytes, and, where it is played, a line of output for each.
 
 use crate::{ffi, Decline, Device, Geometry};
 
@@ -43,4 +43,45 @@ pub fn play_length(
     let answer = ffi::play_length(geometry, device, one, two, sram, script);
     Decline::judge(answer.decline)?;
     Ok(answer.bytes)
+}
+
+/// Writes a whole update as a script, from the buffer's first byte on; gives the number of its records, which is the update's total.
+///
+/// Each action of the update is a record, in order; all of them have [`Geometry::script_bytes`] bytes. Bytes past the last record keep
+/// their contents. It is declined as [`update_start`](crate::update_start), and after that where the buffer is too short.
+///
+/// On the same device and banks the play of the script is the update: each record answers 0, and after `i` records stands what `i` turns
+/// leave. So all that is proved of a supply that fails during an update holds while the script is played.
+///
+/// What is written depends on the geometry, the image and T alone, the low half of the sequence word of the bank on the lower alias. One
+/// script serves every sign whose update start is accepted and whose T is the same. A play checks none of the start's conditions: on any
+/// other sign nothing is promised of it, so ask [`update_start`](crate::update_start) there before the play.
+///
+/// ```
+/// use yohrundel::{play, write_script, Decline, Device, Geometry};
+///
+/// fn main() -> Result<(), Decline> {
+///     let sign = Geometry { q: 1, b: 1, p: 1 };
+///     let (mut one, mut two, image) = ([7; 64], [!0; 64], [9; 64]);
+///     let sequence = sign.sequence_index()?;
+///     one[sequence] = 0xFFFE_0001;
+///     let mut script = vec![0; sign.script_bytes()?];
+///     let records = write_script(sign, Device::power_on(), &one, &two, &image, &mut script)?;
+///     assert_eq!((records, script.len()), (252, 8 * 252));
+///     play(sign, Device::power_on(), &mut one, &mut two, &[], &script, &mut [])?;
+///     assert_eq!((two[0], two[sequence]), (9, 0xFFFD_0002));
+///     Ok(())
+/// }
+/// ```
+pub fn write_script(
+    geometry: Geometry,
+    device: Device,
+    one: &[u32],
+    two: &[u32],
+    image: &[u32],
+    buffer: &mut [u8],
+) -> Result<u32, Decline> {
+    let answer = ffi::write_script(geometry, device, one, two, image, buffer);
+    Decline::judge(answer.decline)?;
+    Ok(answer.records)
 }

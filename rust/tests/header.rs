@@ -119,6 +119,9 @@ fn declared(line: &'static str) -> Option<&'static str> {
     answer.starts_with("yohrundel_").then_some(name)
 }
 
+/// Calls that came when the device had its present length, and so have their name as their symbol.
+const LATER: [&str; 1] = ["yohrundel_write_script"];
+
 /// The calls that take a device, in their first line or in the second, and the one that gives it alone.
 fn with_a_device() -> BTreeSet<&'static str> {
     let lines = HEADER.lines().zip(HEADER.lines().skip(1));
@@ -134,7 +137,7 @@ fn with_a_device() -> BTreeSet<&'static str> {
 fn symbols_of_calls_with_a_device() {
     let renamed = renamed();
     assert_eq!(renamed, linked());
-    let names: BTreeSet<&str> = renamed.keys().copied().collect();
+    let names: BTreeSet<&str> = renamed.keys().copied().chain(LATER).collect();
     assert_eq!(names, with_a_device());
     for (name, symbol) in renamed {
         let number = if name == "yohrundel_flash_read" { 3 } else { 2 };

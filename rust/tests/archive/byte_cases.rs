@@ -1,6 +1,6 @@
 //! Cases of the calls that write bytes alone.
 
-use yohrundel::{page_sheet, Decline};
+use yohrundel::{page_sheet, write_script, Decline};
 
 use crate::answers::{changes, text, Answer};
 use crate::inputs::Inputs;
@@ -27,6 +27,15 @@ pub fn sheet_case(inputs: &mut Inputs) -> String {
     on_bytes(&buffer, |buffer| {
         let bytes = page_sheet(sign, device, &one, &two, buffer)?;
         Ok(vec![bytes as u64])
+    })
+}
+
+pub fn write_script_case(inputs: &mut Inputs) -> String {
+    let (sign, device) = (inputs.geometry(), inputs.device());
+    let (one, two, image) = (inputs.list(), inputs.list(), inputs.list());
+    on_bytes(&inputs.bytes(), |buffer| {
+        let records = write_script(sign, device, &one, &two, &image, buffer)?;
+        Ok(vec![records.into()])
     })
 }
 

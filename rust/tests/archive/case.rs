@@ -8,7 +8,7 @@ use yohrundel::*;
 
 use crate::answers::{device_and_event, device_numbers, text, Answer};
 use crate::bank_cases::{flash_read_case, play_case, reset_case, step_case, turn_case};
-use crate::byte_cases::{lanes_case, sheet_case};
+use crate::byte_cases::{lanes_case, sheet_case, write_script_case};
 use crate::inputs::Inputs;
 use crate::rules::{self, possible, protected};
 
@@ -63,6 +63,7 @@ fn call(name: &str, inputs: &mut Inputs) -> String {
         "page_sheet" => sheet_case(inputs),
         "lanes_out" => lanes_case(inputs, lanes_out),
         "lanes_back" => lanes_case(inputs, lanes_back),
+        "write_script" => write_script_case(inputs),
         _ => panic!("no case of a call: {name}"),
     }
 }

@@ -19,3 +19,4 @@ mod rules;
 mod scripts;
 mod settings;
 mod updates;
+mod written;

@@ -4,6 +4,7 @@ use model::device::{self as outside, RESETS};
 use model::geometry::Geometry as OutsideGeometry;
 use model::sheet::sheet_bytes;
 use model::store as forms;
+use model::write_script::script_bytes;
 use model::Refusal;
 use yohrundel::{form, nvmcon, register, Decline, Device, Geometry, Operands};
 
@@ -19,15 +20,23 @@ fn sizes_of_every_geometry() {
                     sign.bank_words(),
                     sign.sequence_index(),
                     sign.sheet_bytes(),
+                    sign.script_bytes(),
                 ];
                 let expected = OutsideGeometry::new([q, b, p]).map(|sign| {
-                    let (index, sheet) = (sign.sequence_index() as u32, sheet_bytes(&sign));
-                    let (pages, bank) = (sign.pages(), sign.bank_words());
-                    [pages, sign.page_words(), bank, index, sheet]
+                    let (pages, page, bank) = (sign.pages(), sign.page_words(), sign.bank_words());
+                    let (sheet, script) = (sheet_bytes(&sign), script_bytes(&sign));
+                    [
+                        pages,
+                        page,
+                        bank,
+                        sign.sequence_index() as u32,
+                        sheet,
+                        script,
+                    ]
                 });
                 match expected {
                     Ok(expected) => assert_eq!(sizes, expected.map(|size| Ok(size as usize))),
-                    Err(_) => assert_eq!(sizes, [Err(Decline::Geometry); 5]),
+                    Err(_) => assert_eq!(sizes, [Err(Decline::Geometry); 6]),
                 }
             }
         }
@@ -53,6 +62,7 @@ fn numbers_of_the_declines() {
         Refusal::Script,
         Refusal::WeekRange,
         Refusal::NoWait,
+        Refusal::ScriptBuffer,
         Refusal::SheetBuffer,
         Refusal::LaneLengths,
     ];

@@ -22,16 +22,16 @@ const SIGNS: [[u32; 3]; 8] = [
     [16, 1, 1],
 ];
 
-const LARGEST: [u32; 3] = [128, 5, 128];
+pub const LARGEST: [u32; 3] = [128, 5, 128];
 
 /// One sign in the archive and in the model.
 pub struct Sign {
-    numbers: [u32; 3],
-    geometry: Geometry,
-    image: Vec<u32>,
+    pub numbers: [u32; 3],
+    pub geometry: Geometry,
+    pub image: Vec<u32>,
     pub device: Device,
     pub banks: [Vec<u32>; 2],
-    outside_device: OutsideDevice,
+    pub outside_device: OutsideDevice,
     outside_banks: [Vec<u32>; 2],
     /// The index of the bank that runs at the start, and what both banks must come to.
     old: usize,
