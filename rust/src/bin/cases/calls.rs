@@ -5,6 +5,7 @@ mod devices;
 mod lanes;
 mod plan;
 mod rules;
+mod script;
 mod sheet;
 mod updates;
 mod walk;
@@ -60,6 +61,7 @@ const CALLS: &[(&str, Call)] = &[
     ("lanes_back", lanes::lanes_back),
     ("valid_by_sum", rules::valid_by_sum),
     ("compare_reason", rules::compare_reason),
+    ("write_script", script::write_script),
     // Lists of calls.
     ("walk", walk::walk),
 ];
