@@ -2,7 +2,8 @@
  * The calls that update.c does not make, each once, on the sign of the play program: two banks of 64 words, all ones but bank 1's
  * sequence word.
  *
- * It prints for each its name and what it gives, as the outside model's cases write it, and then a page sheet and what a script prints.
+ * It prints for each its name and what it gives, as the outside model's cases write it, and then a page sheet, the last records of an
+ * update's script and what a script prints.
  * Anything unexpected ends it with status 1.
  */
 #include <inttypes.h>
@@ -180,6 +181,32 @@ static void lanes_calls(void)
     expect(memcmp(restored, image, sizeof image) == 0, "the image after the way back");
 }
 
+/* An update written as a script, of which the records of the sequence quad are printed; then its play, on copies of the banks. */
+static void write_script_call(yohrundel_device d)
+{
+    static uint8_t script[YOHRUNDEL_SCRIPT_BYTES(1, 1, 1)];
+    uint32_t image[WORDS], first[WORDS], second[WORDS];
+    for (uint32_t i = 0; i < WORDS; i++)
+        image[i] = 0x02000000 + i;
+    const yohrundel_write_script_answer written =
+        yohrundel_write_script(GEOMETRY, d, one, WORDS, two, WORDS, image, WORDS, script, sizeof script);
+    printf("write_script %" PRIu32 " %" PRIu32 "\n", written.decline, written.records);
+    for (size_t i = sizeof script - 8 * 13; i < sizeof script; i++)
+        printf("%02X%c", script[i], i % 8 == 7 ? '\n' : ' ');
+    expect(yohrundel_write_script(GEOMETRY, d, one, WORDS, two, WORDS, image, WORDS, script, sizeof script - 1).decline
+        == YOHRUNDEL_DECLINE_SCRIPT_BUFFER, "a buffer that is too short");
+
+    memcpy(first, one, sizeof one);
+    memcpy(second, two, sizeof two);
+    const yohrundel_play_answer played =
+        yohrundel_play(GEOMETRY, d, first, WORDS, second, WORDS, NULL, 0, script, sizeof script, NULL, 0);
+    expect(played.decline == YOHRUNDEL_ACCEPTED && memcmp(first, one, sizeof one) == 0, "the play of an update");
+    image[SEQUENCE] = 0xFFFD0002;
+    for (int i = 1; i < 4; i++)
+        image[SEQUENCE + i] = UINT32_MAX;
+    expect(memcmp(second, image, sizeof image) == 0, "the new bank after the play");
+}
+
 static void script_calls(yohrundel_device d)
 {
     const yohrundel_play_length_answer length =
@@ -209,6 +236,7 @@ int main(void)
     compare_calls();
     lanes_calls();
     sheet_call(d);
+    write_script_call(d);
     script_calls(d);
     return EXIT_SUCCESS;
 }

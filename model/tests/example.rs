@@ -8,6 +8,7 @@ use model::script::play;
 use model::sheet::page_sheet;
 use model::store::start_up;
 use model::update::{turn, update_start};
+use model::write_script::write_script;
 use std::fmt::Write;
 use std::path::Path;
 
@@ -131,16 +132,23 @@ const RUNNING: &str =
 const BANKS: &str = "64 4294967295 1 28 4294836225 64 4294967295 0";
 
 /// The page sheet of the play program's sign.
-fn sheet() -> String {
-    let (mut one, mut two) = (vec![!0; WORDS], vec![!0; WORDS]);
-    one[SEQUENCE] = 0xFFFE_0001;
-    let banks = Banks {
-        one: &mut one,
-        two: &mut two,
-    };
+fn sheet(banks: &Banks) -> String {
     let mut buffer = vec![0; 68];
-    page_sheet(NUMBERS, &Device::reset_values(), &banks, &mut buffer).unwrap();
+    page_sheet(NUMBERS, &Device::reset_values(), banks, &mut buffer).unwrap();
     String::from_utf8(buffer).unwrap()
+}
+
+/// The records of an update of that sign, and the bytes of the last 13.
+fn script(banks: &Banks) -> String {
+    let (image, mut buffer) = (filled(0x0200_0000), vec![0; 8 * 252]);
+    let device = Device::reset_values();
+    let records = write_script(NUMBERS, &device, banks, &image, &mut buffer).unwrap();
+    let mut text = format!("write_script 0 {records}\n");
+    for record in buffer[8 * 239..].chunks(8) {
+        let bytes: Vec<String> = record.iter().map(|byte| format!("{byte:02X}")).collect();
+        writeln!(text, "{}", bytes.join(" ")).unwrap();
+    }
+    text
 }
 
 #[test]
@@ -165,7 +173,14 @@ fn calls() {
         let name = case.split(' ').next().unwrap();
         writeln!(text, "{name} {}", answer_line(case)).unwrap();
     }
-    text += &sheet();
+    let (mut one, mut two) = (vec![!0; WORDS], vec![!0; WORDS]);
+    one[SEQUENCE] = 0xFFFE_0001;
+    let banks = Banks {
+        one: &mut one,
+        two: &mut two,
+    };
+    text += &sheet(&banks);
+    text += &script(&banks);
     let worked_example = concat!(env!("CARGO_MANIFEST_DIR"), "/../crates/play/stdin");
     text += &play(&std::fs::read(worked_example).unwrap());
     assert_eq!(text, stored("calls.out"));
