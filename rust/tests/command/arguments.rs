@@ -5,7 +5,7 @@ use std::os::unix::ffi::OsStrExt;
 
 use crate::run::{file, run};
 
-const COMMANDS: [&str; 6] = ["play", "update", "cut", "plan", "lanes", "sheet"];
+const COMMANDS: [&str; 7] = ["play", "script", "update", "cut", "plan", "lanes", "sheet"];
 
 #[test]
 fn help_names_every_command() {
@@ -103,6 +103,28 @@ fn arguments_that_are_not_understood() {
 }
 
 #[test]
+fn arguments_of_a_script_that_are_not_understood() {
+    wrong("script", "Q is missing");
+    wrong("script 1 1", "P is missing");
+    wrong("script 1 1 1 - -", "\"-\" is one argument too many");
+    wrong("script 1 1 1 -o", "the value of -o is missing");
+    wrong("script 1 1 1 -o a -o b", "-o is given twice");
+    wrong("script 1 1 1 --out a", "there is no option \"--out\"");
+    let both = "--bank1 and --bank2 go together";
+    wrong("script 1 1 1 --bank1 -", both);
+    wrong("script 1 1 1 --bank2 -", both);
+    wrong("script --list", "the value of --list is missing");
+    wrong("script --list - -", "\"-\" is one argument too many");
+    wrong("script --make - 1 1 1", "\"1\" is one argument too many");
+    let both = "--list and --make exclude each other";
+    wrong("script --list - --make -", both);
+    wrong(
+        "script --list - --bank1 -",
+        "there is no option \"--bank1\"",
+    );
+}
+
+#[test]
 fn arguments_of_a_cut_that_are_not_understood() {
     wrong("cut 1 1 1", "PLACE is missing");
     wrong("cut 1 1 1 0", "KIND is missing");
@@ -148,6 +170,7 @@ fn declined_arguments() {
         declined(&format!("update {geometry}"), reason);
         declined(&format!("cut {geometry} 0 0"), reason);
         declined(&format!("sheet {geometry} - -"), reason);
+        declined(&format!("script {geometry}"), reason);
     }
     let reason = "13: the place exceeds the total: PLACE is 253, the total 252";
     declined("cut 1 1 1 253 0", reason);
@@ -169,10 +192,9 @@ fn images_of_a_wrong_length() {
         let path = path.to_str().expect("a name in UTF-8");
         let reason = "2: a bank, the image or the SRAM has a wrong length";
         let cause = format!("{path:?} does not have the 256 bytes of a bank");
-        declined(
-            &format!("update 1 1 1 {path}"),
-            &format!("{reason}: {cause}"),
-        );
+        let reason = format!("{reason}: {cause}");
+        declined(&format!("update 1 1 1 {path}"), &reason);
+        declined(&format!("script 1 1 1 {path}"), &reason);
     }
 }
 
@@ -184,7 +206,28 @@ fn files_that_cannot_be_read() {
     ] {
         let reason = format!("{path:?} cannot be read: {error}");
         assert_eq!(run(&["play", path]).reason(3), format!("play: {reason}"));
-        let reason = format!("update: {reason}");
-        assert_eq!(run(&["update", "1", "1", "1", path]).reason(3), reason);
+        for command in ["update", "script"] {
+            let reason = format!("{command}: {reason}");
+            assert_eq!(run(&[command, "1", "1", "1", path]).reason(3), reason);
+        }
+        for option in ["--list", "--make"] {
+            let reason = format!("script: {reason}");
+            assert_eq!(run(&["script", option, path]).reason(3), reason);
+        }
+    }
+}
+
+#[test]
+fn files_that_cannot_be_written() {
+    for (path, error) in [
+        ("/no/such/file", "No such file or directory (os error 2)"),
+        ("/", "Is a directory (os error 21)"),
+        ("/dev/full", "No space left on device (os error 28)"),
+    ] {
+        let reason = format!("{path:?} cannot be written: {error}");
+        assert_eq!(
+            run(&["script", "1", "1", "1", "-o", path]).reason(3),
+            format!("script: {reason}")
+        );
     }
 }

@@ -9,6 +9,8 @@ mod play;
 mod readme;
 mod reads;
 mod run;
+mod scripts;
 mod sheet;
 mod terminal;
+mod texts;
 mod updates;

@@ -7,6 +7,7 @@ use model::script::{play_records, Record};
 use model::sequence::{new_quad, Reason};
 use model::store::start_up;
 use model::update::{turn, update_start};
+use model::write_script::{script_bytes, write_script};
 use model::Answer;
 
 pub const LEGEND: &str = "o old   . blank   ~ partly written   n new   ^ protected   * runs\n";
@@ -40,19 +41,29 @@ impl Sign {
     /// "bank 1 runs with the sequence number 1, bank 2 is erased"
     pub fn fresh(numbers: [u32; 3], image: Option<Vec<u32>>) -> Sign {
         let geometry = Geometry::new(numbers).expect("a sign");
-        let image = image.unwrap_or_else(|| made_up(&geometry, 0x0200_0000));
         let old = with_sequence(&geometry, made_up(&geometry, 0x0100_0000), 1);
+        let blank = vec![!0; old.len()];
+        let mut sign = Sign::started(numbers, [old, blank], image);
+        sign.new = with_sequence(&geometry, sign.image.clone(), 2);
+        assert_eq!(sign.runs(), Some(Bank::One));
+        sign
+    }
+
+    /// A sign with given banks after power-on and start-up.
+    pub fn started(numbers: [u32; 3], banks: [Vec<u32>; 2], image: Option<Vec<u32>>) -> Sign {
+        let geometry = Geometry::new(numbers).expect("a sign");
+        let image = image.unwrap_or_else(|| made_up(&geometry, 0x0200_0000));
         let mut sign = Sign {
             numbers,
             geometry,
             device: Device::reset_values(),
-            banks: [old.clone(), vec![!0; old.len()]],
-            old,
-            new: with_sequence(&geometry, image.clone(), 2),
+            old: banks[0].clone(),
+            banks,
+            new: image.clone(),
             image,
             why: "",
         };
-        assert_eq!(sign.restart(0, [0; 4]), Bank::One);
+        sign.restart(0, [0; 4]);
         sign
     }
 
@@ -79,6 +90,16 @@ impl Sign {
         let [one, two] = &mut self.banks;
         let mut banks = Banks { one, two };
         play_records(self.numbers, &mut self.device, &mut banks, &[], records)
+    }
+
+    /// The update as a script, or why it is refused.
+    pub fn script(&self) -> Answer<Vec<u8>> {
+        let [mut one, mut two] = self.banks.clone();
+        let (one, two) = (&mut one, &mut two);
+        let banks = Banks { one, two };
+        let mut script = vec![0; script_bytes(&self.geometry) as usize];
+        write_script(self.numbers, &self.device, &banks, &self.image, &mut script)?;
+        Ok(script)
     }
 
     /// A reset and a start-up; the bank that runs.

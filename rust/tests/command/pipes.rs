@@ -1,6 +1,7 @@
 //! Outputs that are pipes, closed pipes or full.
 
 use std::fs::File;
+use std::io::Read;
 use std::process::{Command, Stdio};
 use std::thread::sleep;
 use std::time::Duration;
@@ -22,6 +23,19 @@ fn closed_pipe_of_a_declined_script() {
     drop(child.stdout.take());
     let reason = "play: declined by 14: the script is malformed: record 0";
     assert_eq!(finish(child, b"no").reason(1), reason);
+}
+
+/// A reader that takes a part of a script, as `head -c` does.
+#[test]
+fn closed_pipe_of_a_long_script() {
+    let mut child = spawn(&["script", "128", "5", "128"]);
+    let mut pipe = child.stdout.take().expect("a pipe");
+    let mut front = [0; 800];
+    pipe.read_exact(&mut front).expect("the front of a script");
+    drop(pipe);
+    assert_eq!(finish(child, b"").printed(), "");
+    let whole = run(&["script", "128", "5", "128"]).out;
+    assert_eq!((whole.len(), &whole[..800]), (15_262_112, &front[..]));
 }
 
 #[test]

@@ -21,11 +21,36 @@ fn on_a_terminal(command: &str) -> Option<Ran> {
     Some(ran)
 }
 
+fn there_is_a_terminal() -> bool {
+    let there_is = on_a_terminal("true").is_some_and(|ran| ran.status == Some(0));
+    if !there_is {
+        eprintln!("not tested: `script` makes no terminal here");
+    }
+    there_is
+}
+
+/// A script's bytes are not for a terminal, whatever makes them; its text is.
+#[test]
+fn no_bytes_for_a_terminal() {
+    if !there_is_a_terminal() {
+        return;
+    }
+    for arguments in ["1 1 1", "1 1 1 -o -", "--make /dev/null"] {
+        let ran = on_a_terminal(&format!("{PROGRAM} script {arguments}")).expect("a terminal");
+        let reason = "a script is no text for a terminal: give -o FILE, or a pipe";
+        let line = format!("yohrundel: script: {reason}; try yohrundel script --help\r\n");
+        assert_eq!((ran.status, ran.out), (Some(2), line.into_bytes()));
+    }
+    let path = file("terminal-list", &SCRIPT[..8]);
+    let list = format!("{PROGRAM} script --list {}", path.display());
+    let printed = on_a_terminal(&list).expect("a terminal").printed();
+    assert_eq!(printed, "store NVMADDR plain 0x1D000080\r\n");
+}
+
 /// Both banks after the play follow its lines.
 #[test]
 fn banks_after_a_play() {
-    if on_a_terminal("true").is_none_or(|ran| ran.status != Some(0)) {
-        eprintln!("not tested: `script` makes no terminal here");
+    if !there_is_a_terminal() {
         return;
     }
     for (name, script) in [

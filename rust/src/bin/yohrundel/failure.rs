@@ -9,10 +9,10 @@ use yohrundel::Decline;
 /// The work is declined, by one of the paper's numbers.
 pub const DECLINED: u8 = 1;
 
-/// The arguments are not understood.
+/// The arguments, or the text of a file, are not understood.
 pub const ARGUMENTS: u8 = 2;
 
-/// A file cannot be read, or the output cannot be written.
+/// A file cannot be read or written, or the output cannot be written.
 pub const FILES: u8 = 3;
 
 pub struct Failure {
@@ -42,6 +42,10 @@ impl Failure {
 
     pub fn file(path: &OsStr, error: io::Error) -> Failure {
         Failure::new(FILES, format!("{path:?} cannot be read: {error}"))
+    }
+
+    pub fn unwritten(path: &OsStr, error: io::Error) -> Failure {
+        Failure::new(FILES, format!("{path:?} cannot be written: {error}"))
     }
 
     pub fn output(error: io::Error) -> Failure {

@@ -1,7 +1,7 @@
 //! Files as bytes and as words.
 
 use std::ffi::OsStr;
-use std::fs::File;
+use std::fs::{self, File};
 use std::io::{self, Read};
 
 use yohrundel::{Decline, Geometry};
@@ -34,6 +34,11 @@ pub fn bank(geometry: Geometry, path: &OsStr) -> Result<Vec<u32>, Failure> {
     Ok(words(&bytes))
 }
 
+/// Writes a file, which is made where there is none.
+pub fn write(path: &OsStr, bytes: &[u8]) -> Result<(), Failure> {
+    fs::write(path, bytes).map_err(|error| Failure::unwritten(path, error))
+}
+
 fn words(bytes: &[u8]) -> Vec<u32> {
     let word = |four: &[u8]| u32::from_le_bytes([four[0], four[1], four[2], four[3]]);
     bytes.chunks_exact(4).map(word).collect()
@@ -42,5 +47,6 @@ fn words(bytes: &[u8]) -> Vec<u32> {
 #[cfg(test)]
 #[test]
 fn lowest_byte_first() {
-    assert_eq!(words(&[1, 2, 3, 4, 5, 6, 7, 8]), [0x0403_0201, 0x0807_0605]);
+    let bytes = [1, 2, 3, 4, 5, 6, 7, 8];
+    assert_eq!(words(&bytes), [0x0403_0201, 0x0807_0605]);
 }

@@ -6,13 +6,17 @@ mod cut;
 mod failure;
 mod files;
 mod lanes;
+mod output;
 mod picture;
 mod plan;
 mod play;
 mod progress;
+mod records;
 mod resets;
+mod script;
 mod sheet;
 mod sign;
+mod sign_files;
 mod times;
 mod torn;
 mod update;
@@ -29,6 +33,7 @@ use failure::{Answer, Failure};
 /// The commands in the order of the help. Each has a file of its own.
 const COMMANDS: &[Command] = &[
     play::COMMAND,
+    script::COMMAND,
     update::COMMAND,
     cut::COMMAND,
     plan::COMMAND,

@@ -10,6 +10,7 @@ use crate::command::Command;
 use crate::failure::{Answer, Failure};
 use crate::files;
 use crate::picture::{legend, picture};
+use crate::records::RECORD;
 use crate::sign::Sign;
 
 pub const COMMAND: Command = Command {
@@ -38,7 +39,7 @@ fn run(mut arguments: Arguments) -> Answer {
         return Err(refused(format_args!("more than {LONGEST} bytes")));
     }
     match played(&script) {
-        Err(Decline::Script) => Err(refused(malformed(&script))),
+        Err(Decline::Script) => Err(refused(malformed(&script)?)),
         played => Ok(played?),
     }
 }
@@ -55,10 +56,11 @@ fn played(script: &[u8]) -> Result<Vec<u8>, Decline> {
 }
 
 /// The first record that is no script by itself.
-fn malformed(script: &[u8]) -> String {
-    let plays = |record: &&[u8]| Sign::bench().and_then(|mut sign| sign.play(record)).is_ok();
-    let number = script.chunks(8).take_while(plays).count();
-    format!("record {number}")
+pub fn malformed(script: &[u8]) -> Result<String, Decline> {
+    let bench = Sign::bench()?;
+    let mut records = script.chunks(RECORD);
+    let number = records.position(|record| bench.play_length(record).is_err());
+    Ok(format!("record {}", number.unwrap_or(0)))
 }
 
 /// "Under decline 14, or with more than 65,536 bytes, the program prints only the line 14."

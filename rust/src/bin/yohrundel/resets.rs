@@ -21,13 +21,23 @@ const fn kind(number: u32, name: &'static str) -> Kind {
     Kind { number, name }
 }
 
+/// What a kind may be written as.
+pub const KIND_WORDS: &str = "power-on, brown-out or other, or 0, 1 or 2";
+
 /// A kind by its number or its name.
+pub fn read_kind(text: &str) -> Option<Kind> {
+    let is_meant = |kind: &Kind| text == kind.name || text == kind.number.to_string();
+    KINDS.into_iter().find(is_meant)
+}
+
+/// The name of a kind.
+pub fn kind_name(number: u32) -> Option<&'static str> {
+    let kind = KINDS.into_iter().find(|kind| kind.number == number);
+    kind.map(|kind| kind.name)
+}
+
 pub fn take_kind(arguments: &mut Arguments) -> Result<Kind, Failure> {
-    let words = "power-on, brown-out or other, or 0, 1 or 2";
-    arguments.form("KIND", words, |text| {
-        let is_meant = |kind: &Kind| text == kind.name || text == kind.number.to_string();
-        KINDS.into_iter().find(is_meant)
-    })
+    arguments.form("KIND", KIND_WORDS, read_kind)
 }
 
 /// A mask, 0 where none is given.

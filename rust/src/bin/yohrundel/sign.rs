@@ -2,15 +2,15 @@
 
 use yohrundel::reset_kind::POWER_ON;
 use yohrundel::{
-    flash_read, play, play_length, reset, start_up, step, turn_lent, update_start, Bank, Decline,
-    Device, Geometry, Reason, TurnOutcome,
+    flash_read, lower_bank, play, play_length, reset, start_up, step, turn_lent, update_start,
+    write_script, Bank, Decline, Device, Geometry, Reason, TurnOutcome,
 };
 
 use crate::progress::Progress;
 
 /// T = 1 and what the update makes of it.
-const OLD_QUAD: [u32; 4] = [0xFFFE_0001, !0, !0, !0];
-pub const NEW_QUAD: [u32; 4] = [0xFFFD_0002, !0, !0, !0];
+const OLD_QUAD: [u32; 4] = sequence_quad(1);
+pub const NEW_QUAD: [u32; 4] = sequence_quad(2);
 
 pub struct Sign {
     pub geometry: Geometry,
@@ -29,17 +29,20 @@ impl Sign {
     /// A sign after power-on and start-up: bank 1 runs with T = 1, bank 2 is erased. The image is one bank long.
     pub fn fresh(geometry: Geometry, image: Vec<u32>) -> Result<Sign, Decline> {
         let one = with_quad(geometry, &made_up(geometry, 1)?, OLD_QUAD)?;
-        let banks = [one, vec![!0; geometry.bank_words()?]];
-        let mut sign = Sign {
-            geometry,
-            device: Device::power_on(),
-            reason: None,
-            old: banks.clone(),
-            banks,
-            new: with_quad(geometry, &image, NEW_QUAD)?,
-            image,
-        };
+        let blank = vec![!0; geometry.bank_words()?];
+        Sign::started(geometry, [one, blank], image)
+    }
+
+    /// A sign with given banks after power-on and start-up. They and the image are one bank long.
+    pub fn started(
+        geometry: Geometry,
+        banks: [Vec<u32>; 2],
+        image: Vec<u32>,
+    ) -> Result<Sign, Decline> {
+        let mut sign = Sign::powered(geometry, banks, image);
         sign.restart(POWER_ON, [0; 4])?;
+        let next = sign.sequence_number()?.wrapping_add(1);
+        sign.new = with_quad(geometry, &sign.image, sequence_quad(next))?;
         Ok(sign)
     }
 
@@ -49,15 +52,27 @@ impl Sign {
         let geometry = Geometry { q: 1, b: 1, p: 1 };
         let blank = vec![!0; geometry.bank_words()?];
         let banks = [with_quad(geometry, &blank, OLD_QUAD)?, blank.clone()];
-        Ok(Sign {
+        Ok(Sign::powered(geometry, banks, blank))
+    }
+
+    /// A sign after power-on, before any reset compares its banks.
+    fn powered(geometry: Geometry, banks: [Vec<u32>; 2], image: Vec<u32>) -> Sign {
+        Sign {
             geometry,
             device: Device::power_on(),
             reason: None,
             old: banks.clone(),
             banks,
-            new: blank.clone(),
-            image: blank,
-        })
+            new: image.clone(),
+            image,
+        }
+    }
+
+    /// T of the bank on the lower alias.
+    pub fn sequence_number(&self) -> Result<u16, Decline> {
+        let [one, two] = &self.banks;
+        let lower = lower_bank(self.geometry, self.device, one, two)?;
+        Ok(lower[self.geometry.sequence_index()?] as u16)
     }
 
     pub fn bank(&self, bank: Bank) -> &[u32] {
@@ -98,11 +113,17 @@ impl Sign {
         Ok(steps)
     }
 
+    /// The bytes that the play of a script would print.
+    pub fn play_length(&self, script: &[u8]) -> Result<usize, Decline> {
+        let [one, two] = &self.banks;
+        play_length(self.geometry, self.device, one, two, &[], script)
+    }
+
     /// Plays a script without SRAM; gives what is printed.
     pub fn play(&mut self, script: &[u8]) -> Result<Vec<u8>, Decline> {
+        let mut output = vec![0; self.play_length(script)?];
         let (geometry, device) = (self.geometry, self.device);
         let [one, two] = &mut self.banks;
-        let mut output = vec![0; play_length(geometry, device, one, two, &[], script)?];
         let played = play(geometry, device, one, two, &[], script, &mut output)?;
         self.device = played.device;
         Ok(output)
@@ -112,6 +133,14 @@ impl Sign {
     pub fn start(&self) -> Result<u32, Decline> {
         let [one, two] = &self.banks;
         Ok(update_start(self.geometry, self.device, one, two, &self.image)?.total)
+    }
+
+    /// The update as a service script. It carries nothing out.
+    pub fn script(&self) -> Result<Vec<u8>, Decline> {
+        let (geometry, [one, two]) = (self.geometry, &self.banks);
+        let mut script = vec![0; geometry.script_bytes()?];
+        write_script(geometry, self.device, one, two, &self.image, &mut script)?;
+        Ok(script)
     }
 
     fn turn(&mut self, place: u32) -> Result<TurnOutcome, Decline> {
@@ -157,6 +186,11 @@ fn made_up(geometry: Geometry, number: u32) -> Result<Vec<u32>, Decline> {
 /// An image where no file gives one.
 pub fn made_up_image(geometry: Geometry) -> Result<Vec<u32>, Decline> {
     made_up(geometry, 2)
+}
+
+/// The quad of a sequence number: T, its complement above it, and three words of all ones.
+const fn sequence_quad(number: u16) -> [u32; 4] {
+    [(!number as u32) << 16 | number as u32, !0, !0, !0]
 }
 
 /// A bank with another sequence quad.

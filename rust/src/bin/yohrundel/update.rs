@@ -5,10 +5,10 @@ use yohrundel::Decline;
 use crate::arguments::Arguments;
 use crate::command::Command;
 use crate::failure::Answer;
-use crate::files;
 use crate::picture::{legend, picture};
 use crate::progress::Progress;
-use crate::sign::{made_up_image, Sign};
+use crate::sign::Sign;
+use crate::sign_files::image;
 use crate::wording::{runs, whole_update};
 
 pub const COMMAND: Command = Command {
@@ -35,11 +35,7 @@ fn run(mut arguments: Arguments) -> Answer {
     let geometry = arguments.geometry()?;
     let path = arguments.optional()?;
     arguments.end()?;
-    let image = match path {
-        Some(path) => files::bank(geometry, path)?,
-        None => made_up_image(geometry)?,
-    };
-    let mut sign = Sign::fresh(geometry, image)?;
+    let mut sign = Sign::fresh(geometry, image(geometry, path)?)?;
     let (report, legend) = (report(&mut sign, &mut progress)?, legend());
     Ok(format!("{report}\n{legend}").into())
 }

@@ -1,0 +1,38 @@
+//! Where a command's work goes: to standard output, or to the file that the option -o names.
+
+use std::ffi::OsStr;
+use std::io::{self, IsTerminal};
+
+use crate::arguments::Arguments;
+use crate::failure::{Answer, Failure};
+use crate::files;
+
+pub struct Output<'a>(Option<&'a OsStr>);
+
+impl<'a> Output<'a> {
+    /// The file of -o; `-` is standard output.
+    pub fn take(arguments: &mut Arguments<'a>) -> Result<Output<'a>, Failure> {
+        let path = arguments.value("-o")?;
+        Ok(Output(path.filter(|path| *path != "-")))
+    }
+
+    /// Bytes that are no text do not go to a terminal.
+    pub fn refuse_terminal(&self) -> Result<(), Failure> {
+        if self.0.is_none() && io::stdout().is_terminal() {
+            let reason = "a script is no text for a terminal: give -o FILE, or a pipe";
+            return Err(Failure::arguments(reason));
+        }
+        Ok(())
+    }
+
+    /// What is printed: the work itself, or, where it goes to a file, a sentence about it.
+    pub fn put(&self, work: Vec<u8>, sentence: String) -> Answer {
+        match self.0 {
+            Some(path) => {
+                files::write(path, &work)?;
+                Ok(sentence.into())
+            }
+            None => Ok(work),
+        }
+    }
+}

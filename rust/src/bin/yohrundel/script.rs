@@ -1,0 +1,111 @@
+//! `yohrundel script`: an update as a service script, and scripts as text.
+
+use std::ffi::OsStr;
+
+use yohrundel::Decline;
+
+use crate::arguments::Arguments;
+use crate::command::Command;
+use crate::failure::{Answer, Failure};
+use crate::files;
+use crate::output::Output;
+use crate::play::malformed;
+use crate::records::{line, record, RECORD};
+use crate::sign::Sign;
+use crate::sign_files::BankFiles;
+
+pub const COMMAND: Command = Command {
+    name: "script",
+    arguments: "Q B P [IMAGE] [OPTION..]",
+    summary: "writes an update as a service script",
+    details: "\
+Q, B, P and IMAGE are as for yohrundel update. It writes the update as a service
+script, a record for each action, to standard output, but never to a terminal.
+OPTION is any of
+  --bank1 FILE --bank2 FILE  the sign's banks, files as IMAGE is one; without
+                             them they are as for yohrundel update
+  -o FILE                    the script goes to FILE, and what it is for is said
+On the same sign the play of the script is the update, record by record: what
+holds where the supply fails during an update, holds during the play. What is
+written depends on the sizes, the image and the sequence number of the bank that
+runs alone, and serves every sign of these sizes with this sequence number that
+accepts the update. A play checks nothing of this: on any other sign nothing is
+promised of it.
+
+yohrundel script --list FILE prints a script as text, a record a line:
+  store REGISTER FORM VALUE  such as store NVMCON set 0x00004000
+  step
+  reset KIND                 KIND is power-on, brown-out or other
+REGISTER is NVMCON, NVMKEY, NVMADDR, NVMDATA0 to 3, NVMSRCADDR, NVMPWP, NVMBWP
+or NVMCON2, FORM is plain, clear, set or invert, VALUE a hexadecimal word.
+yohrundel script --make FILE makes the script of such a text. What follows a #
+in it is a comment, and a line may be blank. FILE may be - for standard input,
+and -o FILE is taken here too.",
+    run,
+};
+
+fn run(mut arguments: Arguments) -> Answer {
+    let output = Output::take(&mut arguments)?;
+    let (listed, made) = (arguments.value("--list")?, arguments.value("--make")?);
+    match (listed, made) {
+        (None, None) => write(arguments, &output),
+        (Some(path), None) => {
+            arguments.end()?;
+            list(path, &output)
+        }
+        (None, Some(path)) => {
+            arguments.end()?;
+            make(path, &output)
+        }
+        _ => Err(Failure::arguments("--list and --make exclude each other")),
+    }
+}
+
+/// Writes an update.
+fn write(mut arguments: Arguments, output: &Output) -> Answer {
+    let banks = BankFiles::take(&mut arguments)?;
+    let geometry = arguments.geometry()?;
+    let image = arguments.optional()?;
+    arguments.end()?;
+    output.refuse_terminal()?;
+    let sign = banks.sign(geometry, image)?;
+    let (script, number) = (sign.script()?, sign.sequence_number()?);
+    let said = format!(
+        "{}It serves signs of these sizes that run with the sequence number {number} and accept\n\
+         the update.\n",
+        length(&script)
+    );
+    output.put(script, said)
+}
+
+fn length(script: &[u8]) -> String {
+    let (records, bytes) = (script.len() / RECORD, script.len());
+    format!("The script has {records} records in {bytes} bytes.\n")
+}
+
+/// A script as text.
+fn list(path: &OsStr, output: &Output) -> Answer {
+    let script = files::bytes(path, usize::MAX)?;
+    let played = Sign::bench()?.play_length(&script);
+    let lines = script
+        .chunks(RECORD)
+        .map(|record| Some(line(record)? + "\n"));
+    match lines.collect::<Option<String>>() {
+        Some(text) if played.is_ok() => output.put(text.into(), length(&script)),
+        _ => Err(Failure::declined(Decline::Script, malformed(&script)?)),
+    }
+}
+
+/// The script of a text.
+fn make(path: &OsStr, output: &Output) -> Answer {
+    output.refuse_terminal()?;
+    let text = files::bytes(path, usize::MAX)?;
+    let mut records = Vec::new();
+    for (number, line) in (1..).zip(text.split(|byte| *byte == b'\n')) {
+        let wrong = |reason| Failure::arguments(format!("line {number} of {path:?}: {reason}"));
+        records.extend(record(&String::from_utf8_lossy(line)).map_err(wrong)?);
+    }
+    let script = records.concat();
+    let said = length(&script);
+    output.put(script, said)
+}
