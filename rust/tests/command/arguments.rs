@@ -125,6 +125,29 @@ fn arguments_of_a_script_that_are_not_understood() {
 }
 
 #[test]
+fn options_of_a_play_that_are_not_understood() {
+    wrong("play --sizes 1,1,1", "FILE is missing");
+    for sizes in [
+        "", "1", "1,1", "1,1,1,1", "1,,1", "1,x,1", "-1,1,1", "1 1 1",
+    ] {
+        let reason = format!("{sizes:?}, not three numbers with commas between");
+        let expected = format!("play: the value of --sizes is {reason}; try yohrundel play --help");
+        assert_eq!(run(&["play", "-", "--sizes", sizes]).reason(2), expected);
+    }
+    let needed = "banks and an image need --sizes";
+    wrong("play - --bank1 - --bank2 -", needed);
+    wrong("play - --image -", needed);
+    let both = "--bank1 and --bank2 go together";
+    wrong("play - --sizes 1,1,1 --bank2 -", both);
+    wrong("play - --save1", "the value of --save1 is missing");
+    wrong(
+        "play - --restart --restart",
+        "there is no option \"--restart\"",
+    );
+    wrong("play - --save3 x", "there is no option \"--save3\"");
+}
+
+#[test]
 fn arguments_of_a_cut_that_are_not_understood() {
     wrong("cut 1 1 1", "PLACE is missing");
     wrong("cut 1 1 1 0", "KIND is missing");
@@ -171,6 +194,8 @@ fn declined_arguments() {
         declined(&format!("cut {geometry} 0 0"), reason);
         declined(&format!("sheet {geometry} - -"), reason);
         declined(&format!("script {geometry}"), reason);
+        let sizes = geometry.replace(' ', ",");
+        declined(&format!("play - --sizes {sizes}"), reason);
     }
     let reason = "13: the place exceeds the total: PLACE is 253, the total 252";
     declined("cut 1 1 1 253 0", reason);
@@ -195,6 +220,10 @@ fn images_of_a_wrong_length() {
         let reason = format!("{reason}: {cause}");
         declined(&format!("update 1 1 1 {path}"), &reason);
         declined(&format!("script 1 1 1 {path}"), &reason);
+        declined(
+            &format!("play /dev/null --sizes 1,1,1 --image {path}"),
+            &reason,
+        );
     }
 }
 
@@ -229,5 +258,9 @@ fn files_that_cannot_be_written() {
             run(&["script", "1", "1", "1", "-o", path]).reason(3),
             format!("script: {reason}")
         );
+        for option in ["--save1", "--save2"] {
+            let ran = run(&["play", "/dev/null", option, path]);
+            assert_eq!(ran.reason(3), format!("play: {reason}"));
+        }
     }
 }

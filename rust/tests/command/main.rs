@@ -6,6 +6,7 @@ mod outside;
 mod pipes;
 mod plan;
 mod play;
+mod plays;
 mod readme;
 mod reads;
 mod run;

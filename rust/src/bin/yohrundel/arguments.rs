@@ -52,6 +52,12 @@ impl<'a> Arguments<'a> {
         }
     }
 
+    /// Whether an option without a value is given, wherever it stands.
+    pub fn flag(&mut self, name: &str) -> bool {
+        let place = self.place(name);
+        place.and_then(|place| self.rest.remove(place)).is_some()
+    }
+
     fn place(&self, name: &str) -> Option<usize> {
         self.rest.iter().position(|argument| *argument == name)
     }

@@ -34,6 +34,11 @@ pub fn bank(geometry: Geometry, path: &OsStr) -> Result<Vec<u32>, Failure> {
     Ok(words(&bytes))
 }
 
+/// The words of a bank as a file has them.
+pub fn bank_bytes(words: &[u32]) -> Vec<u8> {
+    words.iter().flat_map(|word| word.to_le_bytes()).collect()
+}
+
 /// Writes a file, which is made where there is none.
 pub fn write(path: &OsStr, bytes: &[u8]) -> Result<(), Failure> {
     fs::write(path, bytes).map_err(|error| Failure::unwritten(path, error))
@@ -49,4 +54,5 @@ fn words(bytes: &[u8]) -> Vec<u32> {
 fn lowest_byte_first() {
     let bytes = [1, 2, 3, 4, 5, 6, 7, 8];
     assert_eq!(words(&bytes), [0x0403_0201, 0x0807_0605]);
+    assert_eq!(bank_bytes(&words(&bytes)), bytes);
 }

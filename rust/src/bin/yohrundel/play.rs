@@ -1,21 +1,25 @@
-//! `yohrundel play`: what the play program prints.
+//! `yohrundel play`: what the play program prints, and plays on other signs.
 
+use std::ffi::OsStr;
 use std::fmt::Display;
 use std::io::{self, IsTerminal};
 
-use yohrundel::Decline;
+use yohrundel::reset_kind::POWER_ON;
+use yohrundel::{Decline, Geometry};
 
-use crate::arguments::Arguments;
+use crate::arguments::{formed, Arguments};
 use crate::command::Command;
 use crate::failure::{Answer, Failure};
 use crate::files;
 use crate::picture::{legend, picture};
 use crate::records::RECORD;
 use crate::sign::Sign;
+use crate::sign_files::BankFiles;
+use crate::wording::runs;
 
 pub const COMMAND: Command = Command {
     name: "play",
-    arguments: "FILE",
+    arguments: "FILE [OPTION..]",
     summary: "plays a service script",
     details: "\
 FILE is a service script of at most 65,536 bytes; - is standard input. It is
@@ -24,35 +28,130 @@ sequence number 1, and without SRAM. It prints a line for each record: its
 number from 0, the answer (0, or why it was refused), NVMCON, and 1 where there
 was an event, else 0. On a terminal a picture of both banks after the play
 follows.
-What is no script gets the line 14, a reason on standard error, and status 1.",
+What is no script gets the line 14, a reason on standard error, and status 1.
+OPTION is any of
+  --sizes Q,B,P              plays on a sign of these sizes, after power-on and
+                             start-up, a script of any length
+  --bank1 FILE --bank2 FILE  that sign's banks, files of words, lowest byte
+                             first; without them as for yohrundel update
+  --image FILE               an image whose pages the picture shows as new
+  --restart                  then a power-on reset and start-up; it says how
+                             many records were refused, which bank runs, why
+  --save1 FILE --save2 FILE  at the end bank 1, bank 2 or both go to these files
+A script of yohrundel script ends on its sign in the new bank. A play checks
+nothing that an update start checks: on any other sign nothing is promised.",
     run,
 };
 
-/// The longest script in bytes.
+/// The longest script of the play program in bytes.
 const LONGEST: usize = 65_536;
 
-fn run(mut arguments: Arguments) -> Answer {
-    let path = arguments.required("FILE")?;
-    arguments.end()?;
-    let script = files::bytes(path, LONGEST + 1)?;
-    if script.len() > LONGEST {
-        return Err(refused(format_args!("more than {LONGEST} bytes")));
+/// What the options say.
+struct Options<'a> {
+    sizes: Option<Geometry>,
+    banks: BankFiles<'a>,
+    image: Option<&'a OsStr>,
+    restart: bool,
+    save: [Option<&'a OsStr>; 2],
+}
+
+impl<'a> Options<'a> {
+    fn take(arguments: &mut Arguments<'a>) -> Result<Options<'a>, Failure> {
+        let options = Options {
+            sizes: take_sizes(arguments)?,
+            banks: BankFiles::take(arguments)?,
+            image: arguments.value("--image")?,
+            restart: arguments.flag("--restart"),
+            save: [arguments.value("--save1")?, arguments.value("--save2")?],
+        };
+        let of_a_sign = options.banks.are_given() || options.image.is_some();
+        if of_a_sign && options.sizes.is_none() {
+            return Err(Failure::arguments("banks and an image need --sizes"));
+        }
+        Ok(options)
     }
-    match played(&script) {
-        Err(Decline::Script) => Err(refused(malformed(&script)?)),
-        played => Ok(played?),
+
+    /// The sign that is played on, and how long a script may be.
+    fn sign(&self) -> Result<(Sign, usize), Failure> {
+        match self.sizes {
+            Some(geometry) => Ok((self.banks.sign(geometry, self.image)?, usize::MAX)),
+            None => Ok((Sign::bench()?, LONGEST)),
+        }
     }
 }
 
-/// What the play of a script prints: as the play program, and for a terminal both banks after it.
-fn played(script: &[u8]) -> Result<Vec<u8>, Decline> {
-    let mut sign = Sign::bench()?;
-    let mut output = sign.play(script)?;
+fn take_sizes(arguments: &mut Arguments) -> Result<Option<Geometry>, Failure> {
+    let Some(value) = arguments.value("--sizes")? else {
+        return Ok(None);
+    };
+    let (name, words) = ("the value of --sizes", "three numbers with commas between");
+    formed(value, name, words, read_sizes).map(Some)
+}
+
+/// Q, B and P, which the library judges.
+fn read_sizes(text: &str) -> Option<Geometry> {
+    let numbers: Result<Vec<u32>, _> = text.split(',').map(str::parse).collect();
+    match numbers.ok()?[..] {
+        [q, b, p] => Some(Geometry { q, b, p }),
+        _ => None,
+    }
+}
+
+fn run(mut arguments: Arguments) -> Answer {
+    let options = Options::take(&mut arguments)?;
+    let path = arguments.required("FILE")?;
+    arguments.end()?;
+    let (mut sign, longest) = options.sign()?;
+    let script = files::bytes(path, longest.saturating_add(1))?;
+    if script.len() > longest {
+        return Err(refused(format_args!("more than {longest} bytes")));
+    }
+    let mut output = match sign.play(&script) {
+        Err(Decline::Script) => return Err(refused(malformed(&script)?)),
+        played => played?,
+    };
+    if options.restart {
+        output.extend(restarted(&mut sign, &output)?.bytes());
+    }
+    save(&sign, options.save)?;
     if io::stdout().is_terminal() {
         let (picture, legend) = (picture(&sign)?, legend());
         output.extend(format!("\n{picture}\n{legend}").bytes());
     }
     Ok(output)
+}
+
+/// A reset and a start-up after the play, which has printed some lines.
+fn restarted(sign: &mut Sign, played: &[u8]) -> Result<String, Decline> {
+    sign.restart(POWER_ON, [0; 4])?;
+    let (count, runs) = (count(&String::from_utf8_lossy(played)), runs(sign));
+    Ok(format!(
+        "\n{count}\nAfter a power-on reset and start-up {runs}.\n"
+    ))
+}
+
+/// How many records were played, and how many of them refused, by their lines.
+fn count(lines: &str) -> String {
+    let answers = lines.lines().filter_map(|line| line.split(' ').nth(1));
+    let refused = answers.clone().filter(|answer| *answer != "0").count();
+    let first = answers.clone().position(|answer| answer != "0");
+    let first = first.map_or(String::new(), |first| {
+        format!(", the first of them record {first}")
+    });
+    format!(
+        "Records played: {}, refused: {refused}{first}.",
+        answers.count()
+    )
+}
+
+/// Writes the banks to the files that are given.
+fn save(sign: &Sign, paths: [Option<&OsStr>; 2]) -> Result<(), Failure> {
+    for (words, path) in sign.banks.iter().zip(paths) {
+        if let Some(path) = path {
+            files::write(path, &files::bank_bytes(words))?;
+        }
+    }
+    Ok(())
 }
 
 /// The first record that is no script by itself.

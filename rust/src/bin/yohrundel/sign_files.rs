@@ -22,6 +22,10 @@ impl<'a> BankFiles<'a> {
         }
     }
 
+    pub fn are_given(&self) -> bool {
+        self.0.is_some()
+    }
+
     /// A sign with these banks after power-on and start-up; without them it is a fresh one.
     pub fn sign(&self, geometry: Geometry, path: Option<&OsStr>) -> Result<Sign, Failure> {
         let image = image(geometry, path)?;
