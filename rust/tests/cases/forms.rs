@@ -45,7 +45,14 @@ fn lines_that_go_on() {
 fn long_lists() {
     let device = "0 0 0 0 0 0 0 0 2147483648 40927 2031616 0 0 0 0 0 0 0 0";
     let sheet = format!("page_sheet 1 1 1 {device} 64 0 0 64 0 1 63 1");
+    // The sequence word of bank 1, at the index that the sizes give, and bank 2 blank.
+    let script = |sizes, words, index| {
+        let banks = format!("{words} 0 1 {index} 4294836225 {words} 4294967295 0");
+        format!("write_script {sizes} {device} {banks} {words} 0 0")
+    };
     let lines = [
+        format!("{} 15262112 0 1 15262111 9", script("1 1 1", 64, 28)),
+        format!("{} 15262104 0 0", script("128 5 128", 544_768, 20_476)),
         String::from("page 128 5 128 600001 7 1 600000 8 0"),
         String::from("page 1 1 1 16777216 4294967295 0 0"),
         format!("step 1 1 1 {device} 64 0 0 1000000 1 1 999999 2 16385 3 0"),

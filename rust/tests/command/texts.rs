@@ -181,73 +181,50 @@ fn store(register: u8, form: u8, value: u32) -> Record {
     }
 }
 
-/// The line and what is wrong in it, with the status 2, and nothing is written.
+/// A line that is no record, and why.
+const WRONG: [(&str, &str); 16] = [
+    ("load NVMCON", "\"load\" is not store, step or reset"),
+    ("Step", "\"Step\" is not store, step or reset"),
+    ("store", "the register is missing"),
+    ("store # NVMCON", "the register is missing"),
+    ("store NVMCON", "the form is missing"),
+    ("store NVMCON set", "the value is missing"),
+    ("store NVMCON 0x4000", "the form is \"0x4000\", not FORMS"),
+    ("store NVMCON sets 1", "the form is \"sets\", not FORMS"),
+    ("store NVMCON set 1g", "the value is \"1g\", not VALUES"),
+    ("store NVMCON set -1", "the value is \"-1\", not VALUES"),
+    ("store NVMCON set 1 2", "\"2\" is one word too many"),
+    ("step 1", "\"1\" is one word too many"),
+    ("reset", "the kind is missing"),
+    ("reset 3", "the kind is \"3\", not KINDS"),
+    ("reset power on", "the kind is \"power\", not KINDS"),
+    ("reset other 0", "\"0\" is one word too many"),
+];
+
+/// The reason names the line and what is wrong in it.
+fn wrong(text: &[u8], line: u32, reason: &str) {
+    let reason = reason
+        .replace("FORMS", "plain, clear, set or invert")
+        .replace("VALUES", "a hexadecimal word")
+        .replace("KINDS", "power-on, brown-out or other, or 0, 1 or 2");
+    let expected = format!("script: line {line} of \"-\": {reason}; try yohrundel script --help");
+    assert_eq!(made(text).reason(2), expected);
+}
+
 #[test]
 fn texts_that_are_not_understood() {
-    let registers = "NVMCON, NVMKEY, NVMADDR, NVMDATA0 to 3, NVMSRCADDR, NVMPWP, NVMBWP or NVMCON2";
-    let forms = "plain, clear, set or invert";
-    let kinds = "power-on, brown-out or other, or 0, 1 or 2";
-    for (line, reason) in [
-        (
-            "load NVMCON",
-            String::from("\"load\" is not store, step or reset"),
-        ),
-        ("Step", String::from("\"Step\" is not store, step or reset")),
-        ("store", String::from("the register is missing")),
-        ("store # NVMCON", String::from("the register is missing")),
-        ("store NVMCON", String::from("the form is missing")),
-        ("store NVMCON set", String::from("the value is missing")),
-        (
-            "store NVMDATA4 plain 0",
-            format!("the register is \"NVMDATA4\", not {registers}"),
-        ),
-        (
-            "store 0 plain 0",
-            format!("the register is \"0\", not {registers}"),
-        ),
-        (
-            "store NVMCON 0x4000",
-            format!("the form is \"0x4000\", not {forms}"),
-        ),
-        (
-            "store NVMCON sets 1",
-            format!("the form is \"sets\", not {forms}"),
-        ),
-        (
-            "store NVMCON set 1g",
-            String::from("the value is \"1g\", not a hexadecimal word"),
-        ),
-        (
-            "store NVMCON set 100000000",
-            String::from("the value is \"100000000\", not a hexadecimal word"),
-        ),
-        (
-            "store NVMCON set -1",
-            String::from("the value is \"-1\", not a hexadecimal word"),
-        ),
-        (
-            "store NVMCON set 1 2",
-            String::from("\"2\" is one word too many"),
-        ),
-        ("step 1", String::from("\"1\" is one word too many")),
-        ("reset", String::from("the kind is missing")),
-        ("reset 3", format!("the kind is \"3\", not {kinds}")),
-        (
-            "reset power on",
-            format!("the kind is \"power\", not {kinds}"),
-        ),
-        ("reset other 0", String::from("\"0\" is one word too many")),
-    ] {
+    for (line, reason) in WRONG {
         let text = format!("step\n# a comment\n{line}\nno record either\n");
-        let expected = format!("script: line 3 of \"-\": {reason}; try yohrundel script --help");
-        assert_eq!(made(text.as_bytes()).reason(2), expected);
+        wrong(text.as_bytes(), 3, reason);
     }
-    let expected = "\"\u{FFFD}\" is not store, step or reset";
-    let reason = made(b"\xFF").reason(2);
-    assert_eq!(
-        reason,
-        format!("script: line 1 of \"-\": {expected}; try yohrundel script --help")
-    );
+    wrong(b"\xFF", 1, "\"\u{FFFD}\" is not store, step or reset");
+    for register in ["NVMDATA4", "0", "nvmcon", "NVMDATA"] {
+        let names = "NVMCON, NVMKEY, NVMADDR, NVMDATA0 to 3, NVMSRCADDR, NVMPWP, NVMBWP or NVMCON2";
+        let reason = format!("the register is {register:?}, not {names}");
+        wrong(format!("store {register} plain 0").as_bytes(), 1, &reason);
+    }
+    let reason = "the value is \"100000000\", not VALUES";
+    wrong(b"store NVMCON set 100000000", 1, reason);
 }
 
 /// A text that is not understood writes no file, and the reason names the file.
