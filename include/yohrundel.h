@@ -373,8 +373,8 @@ typedef struct yohrundel_page_sheet_answer {
  *
  * Since the device record has launched, these calls have new symbols: an object file that was compiled with the record as it was before
  * does not link with these archives, where its device would be too short. The flash read has another one since it is lent the SRAM, may
- * change the banks and gives a device. Programs call them by their names, and are compiled again. yohrundel_write_script, which came
- * later, never had another record.
+ * change the banks and gives a device. Programs call them by their names, and are compiled again. A call that came later, as
+ * yohrundel_write_script, has its name as its symbol.
  */
 #define yohrundel_power_on yohrundel_power_on_2
 #define yohrundel_store yohrundel_store_2
