@@ -24,7 +24,7 @@ use Rattle.update.specs.Actions.{recorded, actionsOf, actionAtOf, totalOf}
 use Rattle.update.specs.Run.{operationsOf}
 use Rattle.update.specs.Start.{lowerWordOf}
 use Rattle.update.specs.Turn.{nextActionOf, performOf, performed, Turning, turnOf}
-use Rattle.update.specs.PowerFail.{Position, at, turnedOf, turnsOf, afterTurns, placeAfter, Cut, restarted, Restarts, old, Lower, SameBanks, Update, Claims}
+use Rattle.update.specs.PowerFail.{Position, at, turnsOf, afterTurns, placeAfter, Cut, restarted, Restarts, old, Lower, SameBanks, Update, Claims}
 use Rattle.update.proofs.StartLaws.{starts}
 use Rattle.update.proofs.ActionLaws.{actions-total, action-listed}
 use Rattle.update.proofs.RunLaws.{turns-run, turns-action, turns-place}

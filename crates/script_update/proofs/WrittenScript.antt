@@ -2,10 +2,10 @@
 -- sequence word. Assumes nothing.
 use mathlib.Core.Path.{_≡_, refl, sym, ap, _∙_}
 use mathlib.Core.Bool.{true, false}
-use mathlib.Core.List.{List, [], _∷_, _++_}
-use Prim.Native.Nat.{ℕ, zero, suc, _/_, _%_, _*_, _≤_, _<_}
+use mathlib.Core.List.{List}
+use Prim.Native.Nat.{ℕ, zero, suc, _%_, _*_, _≤_, _<_}
 use native.Mathlib.Omega.{arith}
-use lib.ListN.{length, getD, take, drop}
+use lib.ListN.{length, drop}
 use lib.Seq.{take-at, drop-at}
 use borrow.Author.Tests.{le-leb, lt-leb}
 use Rattle.words.specs.Decline.{acceptedOf}
@@ -15,16 +15,14 @@ use Rattle.geometry.specs.Banks.{inRangeOf}
 use Rattle.geometry.proofs.SizeLaws.{in-range}
 use Rattle.sequence.specs.Sequence.{tseqOf, nextSequenceOf}
 use Rattle.device.specs.State.{State}
-use Rattle.update.specs.declared.actions.Action.{Action}
-use Rattle.update.specs.declared.actions.Action.the-variants.{Store, Step}
-use Rattle.update.specs.Actions.{blocks, quadBlock, programmedQuadOf, newQuadOf, bankQuadsOf, programming, recorded, actionsOf, totalOf}
+use Rattle.update.specs.Actions.{blocks, quadBlock, programmedQuadOf, newQuadOf, bankQuadsOf, actionsOf, totalOf}
 use Rattle.update.specs.Start.{lowerWordOf, startOf}
 use Rattle.update.specs.PowerFail.{Words, Update}
 use Rattle.update.specs.Turn.{Turning}
 use Rattle.update.proofs.ActionLaws.{actions-total, action-listed}
 use Rattle.update.proofs.RunLaws.{turns-place}
 use Rattle.update.proofs.LargerTotals.{action-fits}
-use Rattle.script_write.specs.Script.{recordBytesOf, scriptOf, writeScriptDeclineOf, writeScriptOf}
+use Rattle.script_write.specs.Script.{scriptOf, writeScriptDeclineOf, writeScriptOf}
 use Rattle.script_write.proofs.ScriptLaws.{script-length}
 use Rattle.script_update.specs.WrittenScript.{t, scriptFor, Answers, IsScript, Plays, WrittenScript}
 use Rattle.script_update.proofs.ReadLaws.{AllFit, all-bytes, record-read, records-counted, records-script}

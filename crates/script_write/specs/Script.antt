@@ -6,7 +6,6 @@ use lib.ListN.{length, drop}
 use Rattle.words.specs.Word.{pick}
 use Rattle.words.specs.declared.decline.Decline.{Decline}
 use Rattle.words.specs.Decline.{acceptedOf, firstOf}
-use Rattle.script_format.specs.declared.Record.{Record}
 use Rattle.script_format.specs.Records.{bytesOf}
 use Rattle.geometry.specs.declared.banks.Geometry.{Geometry}
 use Rattle.device.specs.State.{State}

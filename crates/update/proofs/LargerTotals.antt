@@ -7,7 +7,7 @@ use mathlib.Core.List.{List, [], _∷_}
 use native.Mathlib.Omega.{arith}
 use native.Mathlib.Nat.{mul-le-mul-right}
 use lib.Dec.{leb, ltb}
-use lib.ListN.{length, getD}
+use lib.ListN.{getD}
 use borrow.Author.Tests.{leb-true, ltb-true, ltb-false, le-leb}
 use Rattle.words.specs.Quad.{wordAt}
 use Rattle.words.proofs.PickLaws.{and-both, pick-both}

@@ -1,5 +1,5 @@
 -- The invariant: the records of the actions so far stand in the buffer. The measure is the actions that are left.
-use Prim.Native.Nat.{_-_, _*_, _≤_, _<_}
+use Prim.Native.Nat.{_-_, _≤_, _<_}
 use borrow.Author.Needs.{needs}
 use lib.ListN.{length}
 use lib.Seq.{sets}
@@ -8,7 +8,6 @@ use native.Mathlib.Numerals.{add-one}
 use native.Mathlib.Omega.{arith}
 use Rattle.update.specs.Actions.{totalOf}
 use Rattle.update.proofs.FormLaws.{total-high}
-use Rattle.script_write.specs.Script.{scriptOf}
 use Rattle.script_write.proofs.ScriptLaws.{firstRecords, put-next, put-all}
 use Rattle.script_write.proofs.put_actions.Statement.{statement}
 use Rattle.script_write.proofs.put_actions.Tie as tie
