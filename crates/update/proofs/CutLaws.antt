@@ -160,7 +160,7 @@ module _ (u : Fixed) where
     pub state : r ≡ placed b (resetDeviceOf d kind (chosenOf b (oldWord u) (wordAt new (sequenceIndexOf g)))) old new
 
   -- it was carried out
-  carried : (s : State) (c : Cut) → acceptedOf (resetBy g s c .decline) ≡ true → resetBy g s c ≡ restartOf g (tearOf g s (c .sram) (c .mask)) (c .kind)
+  pub carried : (s : State) (c : Cut) → acceptedOf (resetBy g s c .decline) ≡ true → resetBy g s c ≡ restartOf g (tearOf g s (c .sram) (c .mask)) (c .kind)
   carried s c h =
       by-reset g s (c .sram) (c .kind) (c .mask)
       (λ (a : After). acceptedOf (a .decline) ≡ true → a ≡ restartOf g (tearOf g s (c .sram) (c .mask)) (c .kind))
@@ -178,10 +178,10 @@ module _ (u : Fixed) where
       ∙ ap (λ (t : Bool). placed b (resetDeviceOf d (c .kind) t) old after) (compared-placed b d old after g)
 
   module _ (d : Device) (new : List ℕ) (c : Cut) where
-    idle-tear : running d ≡ false → tearOf g (placed b d old new) (c .sram) (c .mask) ≡ placed b d old new
+    pub idle-tear : running d ≡ false → tearOf g (placed b d old new) (c .sram) (c .mask) ≡ placed b d old new
     idle-tear off = rw off
 
-    running-tear : running d ≡ true → (j : ℕ) (words : List ℕ) → effectOf g (placed b d old new) (c .sram) ≡ effect false true (not b) j words
+    pub running-tear : running d ≡ true → (j : ℕ) (words : List ℕ) → effectOf g (placed b d old new) (c .sram) ≡ effect false true (not b) j words
         → tearOf g (placed b d old new) (c .sram) (c .mask) ≡ placed b d old (putQuad new j (mergeQuadOf (c .mask) words (quadAt new j)))
     running-tear on j words writes =
         ap (λ (e : Effect). writtenOf (placed b d old new) d (tornOf (placed b d old new) (c .mask) (e .write))) writes

@@ -48,7 +48,7 @@ use Rattle.update.specs.Moves.{Move, movedOf, movesOf, waitsIn, turnsAmo
 use Rattle.update.specs.Moves.Move.{turn, read}
 use Rattle.update.proofs.TurnLaws.{performs, answers-so, every-turn}
 use Rattle.update.proofs.PlacedLaws.{placed, lower-placed, bank-new, new-long, both-placed, not-both}
-use Rattle.update.proofs.Blocks.{Fixed, Finished, Phase, Stands, Losing, Block, DeviceIn, Within, opIn, stepsIn, runIn, newBank}
+use Rattle.update.proofs.Blocks.{Fixed, Finished, Stepping, Phase, Stands, Losing, Block, DeviceIn, Within, opIn, stepsIn, runIn, newBank}
 use Rattle.update.proofs.Blocks.Block.{prologue, page, quad}
 use Rattle.update.proofs.Blocks.Phase.{storing, stepping, ending, finished}
 use Rattle.update.proofs.BlockActions.{step-action}
@@ -104,17 +104,23 @@ module _ (u : Fixed) where
       let s = placed b (runIn u k first n) old new in
       sym (effect-second g s []) ∙ ap (λ (e : Effect). e .write .second) (block-writes u k first n new within few [])
 
+  -- where an operation runs the update is in the steps of a block
+  pub stepping-of : (d : Device) (new : List ℕ) (place : ℕ) → Phase u d new place → running d ≡ true → Stepping u d new place
+  stepping-of d new place (storing c) on =
+      let rest = block-rests u (c .block) (c .within .has) (c .first) (c .within .begins) (c .count) (c .few) in
+      true-not-false (sym on ∙ ap running (c .device) ∙ rest .idle)
+  stepping-of d new place (stepping c) on = c
+  stepping-of d new place (ending c) on = true-not-false (sym on ∙ ap running (c .device) ∙ block-codes u (c .block) .end-idle)
+  stepping-of d new place (finished c) on = true-not-false (sym on ∙ c .rest .idle)
+
   pub running-steps : (p : Position) → Stands u p → running (p .state .device) ≡ true → Steps p
-  running-steps p stands on = go (stands .phase) (ap (λ (s : State). running (s .device)) (sym (stands .state)) ∙ on)
+  running-steps p stands on = go (stepping-of d (stands .new) (p .place) (stands .phase) (ap (λ (s : State). running (s .device)) (sym (stands .state)) ∙ on))
     where
       d : Device
       d = stands .device
 
-      go : Phase u d (stands .new) (p .place) → running d ≡ true → Steps p
-      go (storing c) on =
-          let rest = block-rests u (c .block) (c .within .has) (c .first) (c .within .begins) (c .count) (c .few) in
-          true-not-false (sym on ∙ ap running (c .device) ∙ rest .idle)
-      go (stepping c) on =
+      go : Stepping u d (stands .new) (p .place) → Steps p
+      go c =
           record {
             below = few (phase-place u d (stands .new) (p .place) (stepping c));
             action = ap (actionAt u) (c .here) ∙ step-action u (c .block) (c .within .has) (c .count) (c .few);
@@ -134,9 +140,7 @@ module _ (u : Fixed) where
 
           few : (p .place < totalOf g) ⊎ Finished u d (stands .new) (p .place) → p .place < totalOf g
           few (inl l) = l
-          few (inr f) = true-not-false (sym on ∙ f .rest .idle)
-      go (ending c) on = true-not-false (sym on ∙ ap running (c .device) ∙ block-codes u (c .block) .end-idle)
-      go (finished c) on = true-not-false (sym on ∙ c .rest .idle)
+          few (inr f) = true-not-false (sym on ∙ ap (λ (s : State). running (s .device)) (stands .state) ∙ f .rest .idle)
 
   -- so of the accepted reads those of the new bank wait, and while no operation runs none does
   abbrev Which : State → Bool → List ℕ → ℕ → Type 0
@@ -161,7 +165,7 @@ module _ (u : Fixed) where
       go false false = refl
 
   -- the turn of such a place with an SRAM that is not too long is the step
-  step-turn : (p : Position) → Stands u p → Steps p → (sram : List ℕ) → length sram ≤ 16384
+  pub step-turn : (p : Position) → Stands u p → Steps p → (sram : List ℕ) → length sram ≤ 16384
       → turnedOf g image p sram ≡ at (stepOf g (p .state) sram .state) (p .place + 1)
   step-turn p stands steps sram short =
       let accepts = ap acceptedOf (sym (answers-so g (p .state) image sram (p .place))) ∙ stands-answers u p stands sram short in

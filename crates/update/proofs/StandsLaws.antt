@@ -38,7 +38,7 @@ module _ (u : Fixed) where
         ap (λ (s : State). nextActionOf g s image (p .place)) (stands .state) ∙ next-action u (stands .device) (stands .new) (p .place) (stands .phase) l
 
     module _ (sram : List ℕ) where
-      goes : length sram ≤ 16384 → p .place < totalOf g → Goes u (stands .device) (stands .new) (p .place) sram
+      pub goes : length sram ≤ 16384 → p .place < totalOf g → Goes u (stands .device) (stands .new) (p .place) sram
       goes short l = phase-goes u (stands .device) (stands .new) (p .place) sram (rw (stands .state) at (stands .sound)) short l (stands .phase)
 
       -- where its action leads

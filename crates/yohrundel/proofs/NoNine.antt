@@ -1,12 +1,11 @@
 -- Each call's answer is one of those that its definition names, and 9 is none of them. Assumes nothing.
 use mathlib.Core.Bool.{_&&_}
-use mathlib.Core.Path.{_≡_, refl}
+use mathlib.Core.Path.{refl}
 use mathlib.Core.List.{List, [], _∷_}
 use Prim.Native.Nat.{ℕ, _%_}
 use native.Mathlib.Omega.{arith}
 use lib.Dec.{eqb, ltb, leb}
 use lib.ListN.{length}
-use Rattle.words.specs.Word.{pick}
 use Rattle.words.specs.declared.decline.Decline.{Decline}
 use Rattle.words.specs.Decline.{acceptedOf, firstOf}
 use Rattle.words.proofs.PickLaws.{pick-both}
@@ -41,6 +40,7 @@ use Rattle.planner.specs.Windows.{inRangeOf as inRangeAll}
 use Rattle.sheet.specs.Sheet.{sheetBytesOf, pageSheetDeclineOf, Given, pageSheetOf}
 use Rattle.lanes.specs.Lanes.{lanesDeclineOf}
 use Rattle.script_write.specs.Script.{scriptBytesOf, writeScriptDeclineOf, Writing, writeScriptOf}
+use Rattle.reach.specs.Reach.{reachOf}
 use Rattle.yohrundel.specs.NoNine.{Not9, NoNine}
 
 -- the first of two declines
@@ -164,6 +164,10 @@ write-script g s image buffer =
     (first (startOf g s image .decline) _ (update-start g s image)
     (pick-both Not9 (leb (scriptBytesOf g) (length buffer)) (λ e. omega arith) (λ e. omega arith)))
 
+reach : (g : Geometry) (image other : List ℕ) → Not9 (reachOf g image other .decline)
+unfolding reachOf
+reach g image other = lent g (length image ∷ length other ∷ []) 0
+
 pub no-nine : NoNine
 no-nine =
     record {
@@ -183,4 +187,5 @@ no-nine =
       plan = plan;
       lanes = lanes;
       write-script = write-script;
+      reach = reach;
     }

@@ -24,6 +24,10 @@ use Rattle.update.specs.declared.start.Started.{Started}
 use Rattle.planner.specs.declared.plan.Planned.{Planned}
 use Rattle.sheet.specs.Sheet.{Given}
 use Rattle.script_write.specs.Script.{Writing}
+use Rattle.reach.specs.declared.ReachAnswer.{ReachAnswer}
+use Rattle.reach.specs.declared.ReachAnswer.the-variants.{Action, NoAction, Words, Declined}
+use Rattle.reach.specs.declared.Reached.{Reached}
+use Rattle.reach.specs.Reach.{reachNumberOf}
 use Rattle.yohrundel.specs.declared.answers.EventAnswer.{EventAnswer}
 use Rattle.yohrundel.specs.declared.answers.DeviceAnswer.{DeviceAnswer}
 use Rattle.yohrundel.specs.declared.answers.ResetAnswer.{ResetAnswer}
@@ -38,6 +42,7 @@ use Rattle.yohrundel.specs.declared.answers.PlayLengthAnswer.{PlayLength
 use Rattle.yohrundel.specs.declared.answers.PlanAnswer.{PlanAnswer}
 use Rattle.yohrundel.specs.declared.answers.PageSheetAnswer.{PageSheetAnswer}
 use Rattle.yohrundel.specs.declared.answers.WriteScriptAnswer.{WriteScriptAnswer}
+use Rattle.yohrundel.specs.declared.answers.ReachResult.{ReachResult}
 
 -- ---- calls that lend nothing for writing: the answer is the definition's result
 
@@ -62,6 +67,18 @@ planAnswerOf a = record { decline = numberOf (a .decline); wait = a .wait }
 -- the bank by its number, 1 or 2, and the reason by its own
 abbrev pub compareAnswerOf : Comparison → CompareAnswer
 compareAnswerOf c = record { bank = pick (c .second) 2 1; reason = reasonNumberOf (c .reason) }
+
+-- what an answer says, by its number; the members that it does not use are 0 (ours)
+abbrev pub answerResultOf : ℕ → ReachAnswer → ReachResult
+answerResultOf decline (Action place) =
+    record { decline = decline; kind = reachNumberOf (Action place); place = place; count = 0; lowest = 0; highest = 0 }
+answerResultOf decline NoAction = record { decline = decline; kind = reachNumberOf NoAction; place = 0; count = 0; lowest = 0; highest = 0 }
+answerResultOf decline (Words d) =
+    record { decline = decline; kind = reachNumberOf (Words d); place = 0; count = d .count; lowest = d .lowest; highest = d .highest }
+answerResultOf decline Declined = record { decline = decline; kind = reachNumberOf Declined; place = 0; count = 0; lowest = 0; highest = 0 }
+
+abbrev pub reachResultOf : Reached → ReachResult
+reachResultOf a = answerResultOf (numberOf (a .decline)) (a .answer)
 
 -- the lower-alias bank by its number, 1 or 2, and its length; 0 and 0 where it is declined (ours)
 unfoldable pub lowerBankAnswerOf : Geometry → Device → List ℕ → List ℕ → LowerBankAnswer

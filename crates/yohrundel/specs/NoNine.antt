@@ -2,7 +2,6 @@
 use Prim.Native.Nat.{ℕ}
 use mathlib.Core.Path.{_≡_}
 use mathlib.Core.List.{List}
-use lib.ListN.{length}
 use Rattle.words.specs.declared.decline.Decline.{Decline}
 use Rattle.words.specs.Decline.{numberOf}
 use Rattle.geometry.specs.declared.banks.Geometry.{Geometry}
@@ -21,6 +20,7 @@ use Rattle.planner.specs.Planner.{planOf}
 use Rattle.sheet.specs.Sheet.{pageSheetOf}
 use Rattle.lanes.specs.Lanes.{lanesDeclineOf}
 use Rattle.script_write.specs.Script.{writeScriptOf}
+use Rattle.reach.specs.Reach.{reachOf}
 
 abbrev pub Not9 : Decline → Type 0
 Not9 d = numberOf d ≡ 9 → ⊥
@@ -43,3 +43,4 @@ pub record NoNine : Type 0 where
   pub plan : (minute duration : ℕ) (windows : List ℕ) → Not9 (planOf minute duration windows .decline)
   pub lanes : (source target : ℕ) → Not9 (lanesDeclineOf source target)
   pub write-script : (g : Geometry) (s : State) (image buffer : List ℕ) → Not9 (writeScriptOf g s image buffer .decline)
+  pub reach : (g : Geometry) (image other : List ℕ) → Not9 (reachOf g image other .decline)

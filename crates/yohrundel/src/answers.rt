@@ -106,3 +106,15 @@ pub struct WriteScriptAnswer {
     pub decline: u32,
     pub records: u32,
 }
+
+// What two images differ in: the kind of the answer by its number, then the place of the action that differs, or the differing words.
+// What a kind does not use is 0.
+#[repr(C)]
+pub struct ReachResult {
+    pub decline: u32,
+    pub kind: u32,
+    pub place: u32,
+    pub count: u32,
+    pub lowest: u32,
+    pub highest: u32,
+}

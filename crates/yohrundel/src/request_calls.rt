@@ -1,4 +1,4 @@
-// The exported calls of the later requests: the comparison, garage hours, page sheet, byte lanes.
+// The exported calls of the later requests: the comparison, garage hours, page sheet, byte lanes, what two images differ in.
 ghost use mathlib.Core.Path.{_≡_};
 ghost use lib.ListN.{length};
 ghost use Rattle.words.specs.Decline.{numberOf};
@@ -6,15 +6,19 @@ ghost use Rattle.planner.specs.Planner.{planOf};
 ghost use Rattle.sheet.specs.Sheet.{pageSheetOf};
 ghost use Rattle.lanes.specs.Lanes.{lanesOutOf, lanesBackOf, lanesDeclineOf, targetOf};
 ghost use Rattle.sequence.specs.Comparison.{compareOf};
-ghost use Rattle.yohrundel.specs.Answers.{compareAnswerOf, planAnswerOf, PageSheetGives};
+ghost use Rattle.reach.specs.Reach.{reachOf};
+ghost use Rattle.yohrundel.specs.Answers.{compareAnswerOf, planAnswerOf, reachResultOf, PageSheetGives};
 use crate::answers::CompareAnswer;
 use crate::answers::PageSheetAnswer;
 use crate::answers::PlanAnswer;
+use crate::answers::ReachResult;
 use device::record::Device;
 use geometry::banks::Geometry;
 use lanes::lanes_back;
 use lanes::lanes_out;
 use planner::plan::plan;
+use reach::ReachAnswer;
+use reach::reach;
 use sequence::comparison::compare;
 use sheet::page_sheet;
 
@@ -86,4 +90,50 @@ pub extern "C" fn yohrundel_lanes_back(source: &[u8], target: &mut [u8]) -> u32
 {
     let decline = lanes_back(source, target);
     decline.number()
+}
+
+// What two images differ in, and where they differ in one word the place of the action that differs.
+#[no_mangle]
+pub extern "C" fn yohrundel_reach(g: Geometry, image: &[u32], other: &[u32]) -> ReachResult
+    ensures { λ r. ⌜ r ≡ reachResultOf (reachOf g (now (image .entry)) (now (other .entry))) ⌝ }
+{
+    let a = reach(g, image, other);
+    let declined = a.decline;
+    let answer = a.answer;
+    let decline = declined.number();
+    let kind = answer.number();
+    match answer {
+        ReachAnswer::Action(place) => ReachResult {
+            decline,
+            kind,
+            place,
+            count: 0,
+            lowest: 0,
+            highest: 0,
+        },
+        ReachAnswer::Words(d) => ReachResult {
+            decline,
+            kind,
+            place: 0,
+            count: d.count,
+            lowest: d.lowest,
+            highest: d.highest,
+        },
+        ReachAnswer::NoAction => ReachResult {
+            decline,
+            kind,
+            place: 0,
+            count: 0,
+            lowest: 0,
+            highest: 0,
+        },
+        ReachAnswer::Declined => ReachResult {
+            decline,
+            kind,
+            place: 0,
+            count: 0,
+            lowest: 0,
+            highest: 0,
+        },
+    }
 }

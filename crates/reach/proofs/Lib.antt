@@ -1,0 +1,5 @@
+pub mod DifferenceLaws
+pub mod OneWordLaws
+pub mod OrderLaws
+pub mod OneActionLaws
+pub mod Differing
