@@ -168,6 +168,18 @@ enum yohrundel_reason {
     YOHRUNDEL_REASON_NOT_COMPARED = 4
 };
 
+/* What a comparison of two images finds. */
+enum yohrundel_reach_kind {
+    /* One word differs, and of the actions of the two updates exactly one: place says which. */
+    YOHRUNDEL_REACH_ACTION = 0,
+    /* One word differs, in the sequence quad, and no action does. */
+    YOHRUNDEL_REACH_NO_ACTION = 1,
+    /* No word differs or several do: count, lowest and highest say how many and which. */
+    YOHRUNDEL_REACH_WORDS = 2,
+    /* Nothing was compared: the call was declined. */
+    YOHRUNDEL_REACH_NOT_COMPARED = 3
+};
+
 /* Bits of NVMCON. An operation runs while WR is 1. */
 #define YOHRUNDEL_WR 0x8000u
 #define YOHRUNDEL_WREN 0x4000u
@@ -345,6 +357,20 @@ typedef struct yohrundel_write_script_answer {
     /* The records of the script, which are the update's total; 0 where declined. */
     uint32_t records;
 } yohrundel_write_script_answer;
+
+/* The answer to the question how far one word reaches. A number that its kind does not use is 0. */
+typedef struct yohrundel_reach_answer {
+    uint32_t decline;
+    /* A number of enum yohrundel_reach_kind. */
+    uint32_t kind;
+    /* The place of the action that differs. */
+    uint32_t place;
+    /* How many words differ; 0 for equal images. */
+    uint32_t count;
+    /* The lowest and the highest index in the images of a word that differs; both 0 for equal images. */
+    uint32_t lowest;
+    uint32_t highest;
+} yohrundel_reach_answer;
 
 /* A window of a garage's hours. */
 typedef struct yohrundel_window {
@@ -555,6 +581,25 @@ yohrundel_write_script_answer yohrundel_write_script(
     const uint32_t *two, size_t two_words,
     const uint32_t *image, size_t image_words,
     uint8_t *out, size_t out_bytes);
+
+/*
+ * ---- the call that compares two images
+ */
+
+/*
+ * How far one word reaches: what differs between the updates with two images, each one bank long. It changes nothing, and asks nothing of a
+ * device or of banks. Declines 1 and 2.
+ *
+ * Where the images differ in one word outside the sequence quad, exactly one action of the two updates differs: the store of that word to
+ * its NVMDATA register, at place. Two updates with them, begun from the same accepted start and with the same turns and flash reads, are
+ * at the same place, and their banks differ in at most that one word of the new bank, also after any equal cut and start-up; the same bank
+ * runs in both. Inside the sequence quad, which an update ignores, nothing differs. Of equal images, and of several words that differ,
+ * those of the sequence quad too, the answer has their number and the lowest and highest of them.
+ */
+yohrundel_reach_answer yohrundel_reach(
+    yohrundel_geometry g,
+    const uint32_t *image, size_t image_words,
+    const uint32_t *other, size_t other_words);
 
 /*
  * ---- the call for garage hours

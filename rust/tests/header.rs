@@ -39,42 +39,49 @@ fn constant(of: &str, variant: impl Debug) -> String {
     name
 }
 
+/// The numbers that have a name of their own in the header.
+const NAMED: [(&str, u32); 32] = [
+    ("ACCEPTED", 0),
+    ("MOST_SRAM_WORDS", 16_384),
+    ("MOST_WINDOWS", 14),
+    // The wrapper's reset gives an error then.
+    ("REASON_NOT_COMPARED", 4),
+    // The answers of `reach`: the variants of `Reach`, and the error.
+    ("REACH_ACTION", 0),
+    ("REACH_NO_ACTION", 1),
+    ("REACH_WORDS", 2),
+    ("REACH_NOT_COMPARED", 3),
+    ("NVMCON", register::NVMCON),
+    ("NVMKEY", register::NVMKEY),
+    ("NVMADDR", register::NVMADDR),
+    ("NVMDATA0", register::NVMDATA0),
+    ("NVMDATA1", register::NVMDATA0 + 1),
+    ("NVMDATA2", register::NVMDATA0 + 2),
+    ("NVMDATA3", register::NVMDATA0 + 3),
+    ("NVMSRCADDR", register::NVMSRCADDR),
+    ("NVMPWP", register::NVMPWP),
+    ("NVMBWP", register::NVMBWP),
+    ("NVMCON2", register::NVMCON2),
+    ("PLAIN", form::PLAIN),
+    ("CLEAR", form::CLEAR),
+    ("SET", form::SET),
+    ("INVERT", form::INVERT),
+    ("POWER_ON", reset_kind::POWER_ON),
+    ("BROWN_OUT", reset_kind::BROWN_OUT),
+    ("OTHER_RESET", reset_kind::OTHER),
+    ("WR", nvmcon::WR),
+    ("WREN", nvmcon::WREN),
+    ("WRERR", nvmcon::WRERR),
+    ("LVDERR", nvmcon::LVDERR),
+    ("PFSWAP", nvmcon::PFSWAP),
+    ("BFSWAP", nvmcon::BFSWAP),
+];
+
 #[test]
 fn numbers() {
-    let named = [
-        ("ACCEPTED", 0),
-        ("MOST_SRAM_WORDS", 16_384),
-        ("MOST_WINDOWS", 14),
-        // The wrapper's reset gives an error then.
-        ("REASON_NOT_COMPARED", 4),
-        ("NVMCON", register::NVMCON),
-        ("NVMKEY", register::NVMKEY),
-        ("NVMADDR", register::NVMADDR),
-        ("NVMDATA0", register::NVMDATA0),
-        ("NVMDATA1", register::NVMDATA0 + 1),
-        ("NVMDATA2", register::NVMDATA0 + 2),
-        ("NVMDATA3", register::NVMDATA0 + 3),
-        ("NVMSRCADDR", register::NVMSRCADDR),
-        ("NVMPWP", register::NVMPWP),
-        ("NVMBWP", register::NVMBWP),
-        ("NVMCON2", register::NVMCON2),
-        ("PLAIN", form::PLAIN),
-        ("CLEAR", form::CLEAR),
-        ("SET", form::SET),
-        ("INVERT", form::INVERT),
-        ("POWER_ON", reset_kind::POWER_ON),
-        ("BROWN_OUT", reset_kind::BROWN_OUT),
-        ("OTHER_RESET", reset_kind::OTHER),
-        ("WR", nvmcon::WR),
-        ("WREN", nvmcon::WREN),
-        ("WRERR", nvmcon::WRERR),
-        ("LVDERR", nvmcon::LVDERR),
-        ("PFSWAP", nvmcon::PFSWAP),
-        ("BFSWAP", nvmcon::BFSWAP),
-    ];
     let declines = Decline::ALL.map(|decline| (constant("DECLINE", decline), decline.number()));
     let reasons = Reason::ALL.map(|reason| (constant("REASON", reason), reason.number()));
-    let named = named.map(|(name, number)| (String::from(name), number));
+    let named = NAMED.map(|(name, number)| (String::from(name), number));
     let expected = declines.into_iter().chain(reasons).chain(named);
     assert_eq!(header(), expected.collect::<BTreeMap<String, u32>>());
 }

@@ -64,6 +64,7 @@ fn call(name: &str, inputs: &mut Inputs) -> String {
         "lanes_out" => lanes_case(inputs, lanes_out),
         "lanes_back" => lanes_case(inputs, lanes_back),
         "write_script" => write_script_case(inputs),
+        "reach" => text(&reach_case(inputs)),
         _ => panic!("no case of a call: {name}"),
     }
 }
@@ -122,4 +123,18 @@ fn plan_case(inputs: &mut Inputs) -> Answer {
     let (minute, duration) = (inputs.number(), inputs.number());
     let wait = plan(minute, duration, &inputs.pairs())?;
     Ok(vec![wait.into()])
+}
+
+/// First which of the three answers it is.
+fn reach_case(inputs: &mut Inputs) -> Answer {
+    let (sign, image, other) = (inputs.geometry(), inputs.list(), inputs.list());
+    Ok(match reach(sign, &image, &other)? {
+        Reach::Action { place } => vec![0, place.into()],
+        Reach::NoAction => vec![1],
+        Reach::Words {
+            count,
+            lowest,
+            highest,
+        } => vec![2, count.into(), lowest.into(), highest.into()],
+    })
 }
