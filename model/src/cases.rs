@@ -150,9 +150,12 @@ impl Case {
             }
             Call::StartUp => Ok(device_outputs(&start_up(geometry, device)?, &[])),
             Call::Page => self.answer_page(),
-            Call::Plan | Call::PageSheet | Call::LanesOut | Call::LanesBack | Call::WriteScript => {
-                self.answer_request()
-            }
+            Call::Plan
+            | Call::PageSheet
+            | Call::LanesOut
+            | Call::LanesBack
+            | Call::WriteScript
+            | Call::Reach => self.answer_request(),
             _ => self.answer_with_banks(),
         }
     }

@@ -7,6 +7,7 @@ mod lanes;
 mod memory;
 mod places;
 mod plans;
+mod reaches;
 mod record_edges;
 mod scripts;
 mod sheets;

@@ -150,6 +150,11 @@ impl Geometry {
         }
     }
 
+    /// Quads of one kind of pages in a bank.
+    pub fn window_quads(&self, kind: Kind) -> u32 {
+        self.window_pages(kind) * self.page_quads()
+    }
+
     /// Where an address lies; none outside the four windows.
     pub fn locate(&self, address: u32) -> Option<Location> {
         for kind in [Kind::Boot, Kind::Program] {

@@ -13,6 +13,7 @@ pub mod list;
 pub mod operation;
 pub mod plan;
 pub mod random;
+pub mod reach;
 pub mod script;
 pub mod sequence;
 pub mod sheet;

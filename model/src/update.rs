@@ -111,8 +111,8 @@ fn erase_action(geometry: &Geometry, address: u32, number: u32) -> Action {
 
 /// Address and data: "program pages, then boot pages ascending, sequence quad last".
 fn program_quad(geometry: &Geometry, low: u16, image: &[u32], number: u32) -> (u32, [u32; 4]) {
-    let program_quads = geometry.program_pages * geometry.page_quads();
-    let boot_quads = geometry.boot_pages * geometry.page_quads();
+    let program_quads = geometry.window_quads(Kind::Program);
+    let boot_quads = geometry.window_quads(Kind::Boot);
     if number < program_quads {
         let start = geometry.window_start(Kind::Program, Side::Upper);
         let quad = image_quad(image, boot_quads + number);
@@ -125,6 +125,23 @@ fn program_quad(geometry: &Geometry, low: u16, image: &[u32], number: u32) -> (u
         return (address, new_quad(low));
     }
     (address, image_quad(image, boot))
+}
+
+/// The place of the store of one word of the image to its NVMDATA register; none in the quad that "is ignored".
+pub fn data_place(geometry: &Geometry, index: u32) -> Option<u32> {
+    let program_quads = geometry.window_quads(Kind::Program);
+    let boot_quads = geometry.window_quads(Kind::Boot);
+    let (quad, word) = (index / 4, index % 4);
+    if quad == boot_quads - 1 {
+        return None;
+    }
+    // The program pages stand last in an image and are programmed first.
+    let number = if quad < boot_quads {
+        program_quads + quad
+    } else {
+        quad - boot_quads
+    };
+    Some(program_place(geometry) + number * QUAD_ACTIONS + 1 + word)
 }
 
 fn image_quad(image: &[u32], number: u32) -> [u32; 4] {

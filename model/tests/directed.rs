@@ -4,7 +4,9 @@ use std::collections::{BTreeMap, BTreeSet};
 
 use model::cases::{answer_line, Call, Case};
 use model::device::{WR, WRERR};
-use model::generate::directed::{cases, ordered, ordered_sheets, ordered_writes, request_cases};
+use model::generate::directed::{
+    cases, ordered, ordered_reaches, ordered_sheets, ordered_writes, request_cases,
+};
 use model::generate::{line, record_edges, refused_scripts};
 use model::script::play;
 
@@ -64,6 +66,7 @@ fn outcome(case: &Case) -> String {
         Call::FlashRead => "counted",
         Call::Reset if numbers[AFTER_DEVICE + 1] > 0 => "torn",
         Call::Reset => "untouched",
+        Call::Reach => ["action", "none", "words"][numbers[1] as usize],
         Call::Turn if numbers[1] == 1 => "done",
         Call::Turn if numbers[TURN_EVENT + 1] > 0 => "written",
         Call::Turn if numbers[TURN_EVENT] == 1 => "event",
@@ -147,6 +150,7 @@ const EXPECTED: &[(&str, &str, &str)] = &[
     ("waits", "update_start", "accepted 10"),
     ("waits", "walk", "written untouched"),
     ("writes", "write_script", "accepted 1 2 3 5 10 11 12 17"),
+    ("reaches", "reach", "action none words 1 2"),
 ];
 
 #[test]
@@ -189,7 +193,8 @@ fn no_call_is_declined_with_9() {
 
 #[test]
 fn the_lowest_decline_is_given() {
-    for (lowest, case) in [ordered(), ordered_sheets(), ordered_writes()].concat() {
+    let requests = [ordered_sheets(), ordered_writes(), ordered_reaches()].concat();
+    for (lowest, case) in ordered().into_iter().chain(requests) {
         assert_eq!(numbers(&case)[0], lowest, "{}", case.inputs());
     }
 }

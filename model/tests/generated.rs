@@ -6,6 +6,7 @@ use model::cases::{answer_line, Call, Case, SHAPES};
 use model::device::{possible, Device, Operands, BFSWAP, WRERR};
 use model::generate::{line, request_lines, script, Cases, MOST_WORDS};
 use model::geometry::Geometry;
+use model::reach::{reach, Reach};
 use model::script::{play, records};
 use model::write_script::script_bytes;
 
@@ -28,6 +29,7 @@ fn declines(call: Call) -> &'static [u32] {
         Call::PageSheet => &[1, 2, 3, 18],
         Call::LanesOut | Call::LanesBack => &[22],
         Call::WriteScript => &[1, 2, 3, 5, 10, 11, 12, 17],
+        Call::Reach => &[1, 2],
     }
 }
 
@@ -75,8 +77,19 @@ fn a_seed_keeps_its_lines() {
     assert_eq!(sum, 416_249_257);
 }
 
+/// What the images of an accepted case of a reach are.
+fn images_class(case: &Case) -> &'static str {
+    let [image, other] = [0, 1].map(|list| case.lists[list].words());
+    match reach(case.geometry, &image, &other).unwrap() {
+        Reach::Action { .. } => "a word apart",
+        Reach::NoAction => "a word of the sequence quad apart",
+        Reach::Words { count: 0, .. } => "equal",
+        Reach::Words { .. } => "several words apart",
+    }
+}
+
 /// Sheets of every Q, under all four mappings, of idle and running devices; plans of few and many windows; scripts for both old
-/// banks into buffers of their length and longer.
+/// banks into buffers of their length and longer; images that are equal, one word apart, outside and in the sequence quad, and several.
 #[test]
 fn requests_vary() {
     let mut seen = BTreeSet::new();
@@ -94,13 +107,16 @@ fn requests_vary() {
                 let longer = case.lists[3].length > script_bytes(&geometry) as usize;
                 seen.insert(format!("script {} {longer}", case.device.con(BFSWAP)));
             }
+            Call::Reach if accepted => {
+                seen.insert(format!("images {}", images_class(&case)));
+            }
             Call::Plan => {
                 seen.insert(format!("windows {}", case.numbers[2].min(15)));
             }
             _ => {}
         }
     }
-    assert_eq!(seen.len(), 8 + 4 + 2 + 16 + 4, "{seen:?}");
+    assert_eq!(seen.len(), 8 + 4 + 2 + 16 + 4 + 4, "{seen:?}");
 }
 
 /// Running devices that were and were not loaded since their launch; impossible ones by what was launched alone.

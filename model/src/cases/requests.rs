@@ -4,6 +4,7 @@ use super::{Call, Case};
 use crate::geometry::Banks;
 use crate::lanes::{lanes_back, lanes_out};
 use crate::plan::{plan, Window};
+use crate::reach::{reach, Reach};
 use crate::sheet::page_sheet;
 use crate::write_script::write_script;
 use crate::Answer;
@@ -13,6 +14,7 @@ impl Case {
         match self.call {
             Call::Plan => self.answer_plan(),
             Call::PageSheet | Call::WriteScript => self.answer_written(),
+            Call::Reach => self.answer_reach(),
             _ => self.answer_lanes(),
         }
     }
@@ -49,6 +51,20 @@ impl Case {
         let mut outputs = vec![count];
         outputs.extend(byte_changes(&before, &buffer));
         Ok(outputs)
+    }
+
+    /// First which of the three answers it is.
+    fn answer_reach(&self) -> Answer<Vec<u32>> {
+        let (image, other) = (self.lists[0].words(), self.lists[1].words());
+        Ok(match reach(self.geometry, &image, &other)? {
+            Reach::Action { place } => vec![0, place],
+            Reach::NoAction => vec![1],
+            Reach::Words {
+                count,
+                lowest,
+                highest,
+            } => vec![2, count, lowest, highest],
+        })
     }
 
     fn answer_lanes(&self) -> Answer<Vec<u32>> {

@@ -23,6 +23,7 @@ pub enum Call {
     Walk,
     CompareReason,
     WriteScript,
+    Reach,
 }
 
 /// The inputs of a call, in the order in which a line gives them.
@@ -69,7 +70,7 @@ const fn shape(
 }
 
 /// The calls of the base stand first, those of later requests follow.
-pub const SHAPES: [Shape; 21] = [
+pub const SHAPES: [Shape; 22] = [
     shape(Call::Compare, "compare", false, false, 0, 2),
     shape(Call::Possible, "possible", true, true, 0, 0),
     shape(Call::Protected, "protected", true, true, 0, 3),
@@ -109,6 +110,7 @@ pub const SHAPES: [Shape; 21] = [
         bytes: 1,
         ..shape(Call::WriteScript, "write_script", true, true, 4, 0)
     },
+    shape(Call::Reach, "reach", true, false, 2, 0),
 ];
 
 /// How many calls the base has.

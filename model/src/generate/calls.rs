@@ -14,6 +14,7 @@ use super::lanes::lanes_case;
 use super::memory;
 use super::places::{self, Start};
 use super::plans::plan_case;
+use super::reaches::images;
 use super::sheets::page_sheet_case;
 use super::walks::walk_case;
 use super::write_scripts::put_script_buffer;
@@ -67,6 +68,10 @@ fn fill_case(random: &mut Random, geometry: &Geometry, case: &mut Case) {
         Call::WriteScript => {
             update_start_case(random, geometry, case);
             put_script_buffer(random, geometry, case);
+        }
+        Call::Reach => {
+            let images = images(random, geometry);
+            put_banks(random, case, images);
         }
         Call::ValidBySum => case.numbers = vec![memory::sequence_word(random)],
     }

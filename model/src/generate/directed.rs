@@ -13,6 +13,7 @@ mod parts;
 mod plans;
 mod probes;
 mod protection;
+mod reaches;
 mod reads;
 mod reasons;
 mod resets;
@@ -29,6 +30,7 @@ mod waits;
 mod writes;
 
 pub use orders::ordered;
+pub use reaches::ordered_reaches;
 pub use sheets::ordered_sheets;
 pub use writes::ordered_writes;
 
@@ -66,7 +68,7 @@ pub const SUBJECTS: [Subject; 16] = [
 ];
 
 /// Subjects of the calls that later requests added.
-pub const REQUEST_SUBJECTS: [Subject; 9] = [
+pub const REQUEST_SUBJECTS: [Subject; 10] = [
     subject("plans", plans::cases),
     subject("sheets", sheets::cases),
     subject("lanes", lanes::cases),
@@ -76,6 +78,7 @@ pub const REQUEST_SUBJECTS: [Subject; 9] = [
     subject("loads", loads::cases),
     subject("waits", waits::cases),
     subject("writes", writes::cases),
+    subject("reaches", reaches::cases),
 ];
 
 /// The cases of the base's subjects.

@@ -134,11 +134,11 @@ fn three_quads(case: &mut Case) {
     }
 }
 
-fn longer(case: &mut Case) {
+pub fn longer(case: &mut Case) {
     case.lists[0].length += 1;
 }
 
-fn second_shorter(case: &mut Case) {
+pub fn second_shorter(case: &mut Case) {
     case.lists[1].length -= 1;
 }
 

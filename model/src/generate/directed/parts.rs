@@ -37,6 +37,19 @@ pub const LARGEST: Geometry = Geometry {
     program_pages: MOST_PROGRAM_PAGES,
 };
 
+/// Decline 1: Q, B and P just outside.
+pub const REFUSED: [Geometry; 9] = [
+    geometry(0, 1, 1),
+    geometry(3, 1, 1),
+    geometry(6, 1, 1),
+    geometry(129, 1, 1),
+    geometry(256, 1, 1),
+    geometry(1, 0, 1),
+    geometry(1, 6, 1),
+    geometry(1, 1, 0),
+    geometry(1, 1, 129),
+];
+
 /// The four windows.
 pub const WINDOWS: [(Kind, Side); 4] = [
     (Kind::Boot, Side::Lower),
@@ -328,6 +341,12 @@ pub fn write_script(
     let mut case = update_start(geometry, device, banks, image);
     case.call = Call::WriteScript;
     case.lists.push(List::from_bytes(buffer));
+    case
+}
+
+pub fn reach(geometry: &Geometry, images: &Pair) -> Case {
+    let mut case = case(Call::Reach, geometry, Device::reset_values());
+    lists(&mut case, images);
     case
 }
 

@@ -4,7 +4,7 @@ mod signs;
 mod starts;
 mod turns;
 
-pub use signs::{Sign, OLD};
+pub use signs::{page_ends, Sign, OLD};
 
 use crate::cases::Case;
 

@@ -4,6 +4,7 @@ mod banks;
 mod devices;
 mod lanes;
 mod plan;
+mod reach;
 mod rules;
 mod script;
 mod sheet;
@@ -62,6 +63,7 @@ const CALLS: &[(&str, Call)] = &[
     ("valid_by_sum", rules::valid_by_sum),
     ("compare_reason", rules::compare_reason),
     ("write_script", script::write_script),
+    ("reach", reach::reach),
     // Lists of calls.
     ("walk", walk::walk),
 ];

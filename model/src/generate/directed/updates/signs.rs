@@ -136,7 +136,7 @@ impl Sign {
 }
 
 /// The first and last two words of the first two and last pages of both windows.
-fn page_ends(geometry: &Geometry) -> Vec<usize> {
+pub fn page_ends(geometry: &Geometry) -> Vec<usize> {
     let (boot, page) = (geometry.boot_pages, geometry.page_words());
     let last = geometry.pages() - 1;
     let mut ends = Vec::new();

@@ -24,7 +24,7 @@ pub fn cases() -> Vec<Case> {
     for device in reasons() {
         cases.push(written(&Sign::blank(SMALL, false).with_device(device)));
     }
-    geometries(&mut cases);
+    cases.extend(REFUSED.map(refused_sign));
     cases
 }
 
@@ -102,23 +102,7 @@ fn lengths(sign: &Sign, cases: &mut Vec<Case>) {
     }
 }
 
-/// Decline 1: Q, B and P just outside, with banks and a buffer as long as they would ask for.
-fn geometries(cases: &mut Vec<Case>) {
-    for (row_quads, boot_pages, program_pages) in [
-        (0, 1, 1),
-        (3, 1, 1),
-        (6, 1, 1),
-        (129, 1, 1),
-        (256, 1, 1),
-        (1, 0, 1),
-        (1, 6, 1),
-        (1, 1, 0),
-        (1, 1, 129),
-    ] {
-        cases.push(refused_sign(geometry(row_quads, boot_pages, program_pages)));
-    }
-}
-
+/// Decline 1, with banks and a buffer as long as the sizes would ask for.
 fn refused_sign(geometry: Geometry) -> Case {
     let words = geometry.bank_words() as usize;
     let banks = [vec![0; words], vec![0; words]];
