@@ -13,6 +13,7 @@ mod lent;
 mod names;
 mod play_cases;
 mod probes;
+mod reaches;
 mod reads;
 mod requests;
 mod rules;

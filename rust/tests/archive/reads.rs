@@ -11,7 +11,7 @@ use crate::updates::Sign;
 const SIGNS: [[u32; 3]; 5] = [[1, 1, 1], [1, 2, 1], [2, 1, 1], [1, 1, 3], [4, 2, 2]];
 
 /// An address in one of the windows of a side.
-fn address(random: &mut Random, geometry: &Geometry, side: Side) -> u32 {
+pub fn address(random: &mut Random, geometry: &Geometry, side: Side) -> u32 {
     let kind = random.pick(&[Kind::Boot, Kind::Program]);
     let words = geometry.window_bytes(kind) / 4;
     geometry.window_start(kind, side) + 4 * random.below(words)

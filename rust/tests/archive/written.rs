@@ -18,7 +18,7 @@ fn random_sign(numbers: [u32; 3], random: &mut Random) -> Sign {
 }
 
 /// The script of a sign's update, by the archive and by the model.
-fn written(sign: &Sign) -> Vec<u8> {
+pub fn written(sign: &Sign) -> Vec<u8> {
     let mut script = vec![0xA5; sign.geometry.script_bytes().expect("a sign")];
     let [one, two] = &sign.banks;
     let records = write_script(
