@@ -181,6 +181,44 @@ static void lanes_calls(void)
     expect(memcmp(restored, image, sizeof image) == 0, "the image after the way back");
 }
 
+/* A number that the kind of the answer does not use is 0. */
+static void check_unused(const yohrundel_reach_answer *r)
+{
+    expect(r->kind == YOHRUNDEL_REACH_ACTION || r->place == 0, "a place that is not used");
+    expect(r->kind == YOHRUNDEL_REACH_WORDS || (r->count == 0 && r->lowest == 0 && r->highest == 0), "words that are not used");
+}
+
+static void print_reach(const yohrundel_reach_answer *r)
+{
+    check_unused(r);
+    printf("reach %" PRIu32 " %" PRIu32, r->decline, r->kind);
+    if (r->kind == YOHRUNDEL_REACH_ACTION)
+        printf(" %" PRIu32, r->place);
+    if (r->kind == YOHRUNDEL_REACH_WORDS)
+        printf(" %" PRIu32 " %" PRIu32 " %" PRIu32, r->count, r->lowest, r->highest);
+    printf("\n");
+}
+
+/* An image beside one with another first word of the program page, then of the sequence quad too, then of that alone. */
+static void reach_calls(void)
+{
+    const uint32_t image[WORDS] = {0};
+    uint32_t other[WORDS] = {0};
+    other[32] = 1;
+    yohrundel_reach_answer reach = yohrundel_reach(GEOMETRY, image, WORDS, other, WORDS);
+    print_reach(&reach);
+    other[SEQUENCE] = 1;
+    reach = yohrundel_reach(GEOMETRY, image, WORDS, other, WORDS);
+    print_reach(&reach);
+    other[32] = 0;
+    reach = yohrundel_reach(GEOMETRY, image, WORDS, other, WORDS);
+    print_reach(&reach);
+
+    reach = yohrundel_reach(GEOMETRY, image, WORDS, other, WORDS - 1);
+    expect(reach.decline == YOHRUNDEL_DECLINE_LENGTH && reach.kind == YOHRUNDEL_REACH_NOT_COMPARED, "a declined comparison");
+    check_unused(&reach);
+}
+
 /* An update written as a script, of which the records of the sequence quad are printed; then its play, on copies of the banks. */
 static void write_script_call(yohrundel_device d)
 {
@@ -235,6 +273,7 @@ int main(void)
     plan_call();
     compare_calls();
     lanes_calls();
+    reach_calls();
     sheet_call(d);
     write_script_call(d);
     script_calls(d);

@@ -167,6 +167,9 @@ fn calls() {
         String::from("plan 200 60 2 1500 240 9960 360"),
         String::from("compare_reason 4294836225 4294967295"),
         String::from("lanes_out 8 0 8 0 1 1 2 2 3 3 4 4 5 5 6 6 7 7 8 8 0 0"),
+        String::from("reach 1 1 1 64 0 0 64 0 1 32 1"),
+        String::from("reach 1 1 1 64 0 0 64 0 2 28 1 32 1"),
+        String::from("reach 1 1 1 64 0 0 64 0 1 28 1"),
     ];
     let mut text = String::new();
     for case in &cases {
