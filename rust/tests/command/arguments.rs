@@ -5,7 +5,9 @@ use std::os::unix::ffi::OsStrExt;
 
 use crate::run::{file, run};
 
-const COMMANDS: [&str; 7] = ["play", "script", "update", "cut", "plan", "lanes", "sheet"];
+const COMMANDS: [&str; 8] = [
+    "play", "script", "update", "cut", "reach", "plan", "lanes", "sheet",
+];
 
 #[test]
 fn help_names_every_command() {
@@ -80,6 +82,11 @@ fn arguments_that_are_not_understood() {
     let number = "\"4294967296\", not a number from 0 to 4294967295";
     wrong("update 4294967296 1 1", &format!("Q is {number}"));
     wrong("update 1 1 1 - -", "\"-\" is one argument too many");
+    wrong("reach 1 1", "P is missing");
+    wrong("reach 1 1 1", "IMAGE1 is missing");
+    wrong("reach 1 1 1 -", "IMAGE2 is missing");
+    wrong("reach 1 1 1 - - -", "\"-\" is one argument too many");
+    wrong("reach 1 1 1 - --all", "there is no option \"--all\"");
     wrong("plan 0 1", "START:LENGTH is missing");
     wrong("lanes", "the way is missing");
     wrong("lanes forth -", "the way is \"forth\", not out or back");
@@ -193,6 +200,7 @@ fn declined_arguments() {
         declined(&format!("update {geometry}"), reason);
         declined(&format!("cut {geometry} 0 0"), reason);
         declined(&format!("sheet {geometry} - -"), reason);
+        declined(&format!("reach {geometry} - -"), reason);
         declined(&format!("script {geometry}"), reason);
         let sizes = geometry.replace(' ', ",");
         declined(&format!("play - --sizes {sizes}"), reason);
@@ -220,6 +228,7 @@ fn images_of_a_wrong_length() {
         let reason = format!("{reason}: {cause}");
         declined(&format!("update 1 1 1 {path}"), &reason);
         declined(&format!("script 1 1 1 {path}"), &reason);
+        declined(&format!("reach 1 1 1 {path} -"), &reason);
         declined(
             &format!("play /dev/null --sizes 1,1,1 --image {path}"),
             &reason,
@@ -239,6 +248,8 @@ fn files_that_cannot_be_read() {
             let reason = format!("{command}: {reason}");
             assert_eq!(run(&[command, "1", "1", "1", path]).reason(3), reason);
         }
+        let ran = run(&["reach", "1", "1", "1", path, "-"]);
+        assert_eq!(ran.reason(3), format!("reach: {reason}"));
         for option in ["--list", "--make"] {
             let reason = format!("script: {reason}");
             assert_eq!(run(&["script", option, path]).reason(3), reason);

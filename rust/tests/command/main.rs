@@ -7,6 +7,7 @@ mod pipes;
 mod plan;
 mod play;
 mod plays;
+mod reaches;
 mod readme;
 mod reads;
 mod run;

@@ -7,10 +7,12 @@ mod failure;
 mod files;
 mod lanes;
 mod output;
+mod page_names;
 mod picture;
 mod plan;
 mod play;
 mod progress;
+mod reach;
 mod records;
 mod resets;
 mod script;
@@ -36,6 +38,7 @@ const COMMANDS: &[Command] = &[
     script::COMMAND,
     update::COMMAND,
     cut::COMMAND,
+    reach::COMMAND,
     plan::COMMAND,
     lanes::COMMAND,
     sheet::COMMAND,

@@ -1,7 +1,8 @@
 //! The quad that a reset tears.
 
-use yohrundel::{Bank, Decline, Geometry};
+use yohrundel::{Bank, Decline};
 
+use crate::page_names::quad_name;
 use crate::sign::Sign;
 use crate::wording::quad;
 
@@ -21,15 +22,4 @@ pub fn change(sign: &Sign, before: &[Vec<u32>; 2]) -> Result<String, Decline> {
         }
     }
     Ok(String::from("changes no word"))
-}
-
-/// The quad of a word by its number in its page, and the page by its number among those of its kind.
-fn quad_name(geometry: Geometry, word: usize) -> Result<String, Decline> {
-    let page_words = geometry.page_words()?;
-    let (page, quad) = (word / page_words, word % page_words / 4);
-    let (kind, page) = match page.checked_sub(geometry.b as usize) {
-        None => ("boot", page),
-        Some(page) => ("program", page),
-    };
-    Ok(format!("quad {quad} of {kind} page {page}"))
 }
