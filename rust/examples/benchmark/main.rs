@@ -6,6 +6,7 @@
 
 mod clock;
 mod lanes;
+mod reaches;
 mod reads;
 mod rounds;
 mod scripts;
@@ -24,4 +25,5 @@ fn main() {
     lanes::beside_plain_loops();
     sheets::beside_the_model();
     reads::beside_the_model();
+    reaches::beside_a_plain_loop();
 }
