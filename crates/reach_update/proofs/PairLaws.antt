@@ -25,7 +25,8 @@ use Rattle.flash.specs.Step.{advanceOf, stepOf}
 use Rattle.flash.proofs.EffectLaws.{effect-quad}
 use Rattle.update.specs.declared.actions.Action.{Action}
 use Rattle.update.specs.declared.actions.Action.the-variants.{Store, Step}
-use Rattle.update.specs.Actions.{stored, prologue, launchStores, endStores, quadBlock, erasedPageOf, programmedQuadOf, newQuadOf, pageActions, quadActions, programmingFrom}
+use Rattle.update.specs.Actions.{stored, prologue, launchStores, endStores, quadBlock, erasedPageOf, programmedQuadOf}
+use Rattle.update.specs.Actions.{newQuadOf, pageActions, quadActions, programmingFrom}
 use Rattle.update.specs.Actions.{pageActionOf, quadActionOf, actionAtOf}
 use Rattle.update.specs.PowerFail.{Position, old, Update}
 use Rattle.update.proofs.FormLaws.{step-carried}

@@ -26,7 +26,8 @@ use Rattle.script_write.specs.Script.{scriptOf, writeScriptDeclineOf, writeScri
 use Rattle.script_write.proofs.ScriptLaws.{script-length}
 use Rattle.script_update.specs.WrittenScript.{t, scriptFor, Answers, IsScript, Plays, WrittenScript}
 use Rattle.script_update.proofs.ReadLaws.{AllFit, all-bytes, record-read, records-counted, records-script}
-use Rattle.script_update.proofs.PlayLaws.{record-action, under-way, record-accepted, record-turn, play-ends, play-first, play-claims, same-word, play-again}
+use Rattle.script_update.proofs.PlayLaws.{record-action, under-way, record-accepted, record-turn, play-ends}
+use Rattle.script_update.proofs.PlayLaws.{play-first, play-claims, same-word, play-again}
 
 -- ---- by t alone
 same-blocks : {A : Type 0} (n : ℕ) (f h : ℕ → List A) → ((i : ℕ) → f i ≡ h i) → blocks n f ≡ blocks n h
