@@ -75,17 +75,29 @@ unfolding storeOf
 stores-declined g d off [] other = refl
 stores-declined g d off (a ∷ l) other = rw (store-declined g d (a .register) (a .form) (other .0) off) (stores-declined g d off l (other .1))
 
--- ---- the whole
+-- ---- the whole, and a prefix: the run of its stores, declined or not
+stores-as-run : (g : Geometry) (s : State) (l : List Access) → NoLoads l
+    → state (pick (acceptedOf (startUpDeclineOf g (s .device))) (storesOf g (s .device) l) (s .device)) (s .one) (s .two) ≡ runOf g s (storeOperations l)
+stores-as-run g s l other = go (acceptedOf (startUpDeclineOf g (s .device))) refl ∙ stores-run g s l
+  where
+    go : (t : Bool) → acceptedOf (startUpDeclineOf g (s .device)) ≡ t
+        → state (pick t (storesOf g (s .device) l) (s .device)) (s .one) (s .two) ≡ state (storesOf g (s .device) l) (s .one) (s .two)
+    go true e = refl
+    go false e = rw (stores-declined g (s .device) e l other)
+
+loads-take : (n : ℕ) (l : List Access) → NoLoads l → NoLoads (take n l)
+loads-take zero l h = tt
+loads-take (suc n) [] h = tt
+loads-take (suc n) (a ∷ l) h = (h .0, loads-take n l (h .1))
+
 pub start-up-runs : (g : Geometry) (s : State)
     → state (startUpOf g (s .device) .device) (s .one) (s .two) ≡ runOf g s (storeOperations (startUpStores (s .device)))
 unfolding startUpOf
-start-up-runs g s = go (acceptedOf (startUpDeclineOf g (s .device))) refl ∙ stores-run g s (startUpStores (s .device))
-  where
-    go : (t : Bool) → acceptedOf (startUpDeclineOf g (s .device)) ≡ t
-        → state (pick t (storesOf g (s .device) (startUpStores (s .device))) (s .device)) (s .one) (s .two)
-        ≡ state (storesOf g (s .device) (startUpStores (s .device))) (s .one) (s .two)
-    go true e = refl
-    go false e = rw (stores-declined g (s .device) e (startUpStores (s .device)) (start-up-loads-none (s .device)))
+start-up-runs g s = stores-as-run g s (startUpStores (s .device)) (start-up-loads-none (s .device))
+
+pub cut-stores-run : (g : Geometry) (s : State) (n : ℕ) → let l = take n (startUpStores (s .device)) in
+    state (pick (acceptedOf (startUpDeclineOf g (s .device))) (storesOf g (s .device) l) (s .device)) (s .one) (s .two) ≡ runOf g s (storeOperations l)
+cut-stores-run g s n = stores-as-run g s (take n (startUpStores (s .device))) (loads-take n (startUpStores (s .device)) (start-up-loads-none (s .device)))
 
 pub start-up-accepted : (g : Geometry) (s : State) → acceptedOf (startUpOf g (s .device) .decline) ≡ true
     → AllAccepted g s (storeOperations (startUpStores (s .device)))

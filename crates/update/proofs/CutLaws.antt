@@ -14,7 +14,7 @@ use lib.ListN.{length}
 use Rattle.words.specs.Word.{allOnes, mergeOf}
 use Rattle.words.specs.Quad.{wordAt, quadAt, putQuad, blankQuad, mergeQuadOf}
 use Rattle.words.specs.Decline.{acceptedOf}
-use Rattle.words.proofs.BitLaws.{true-not-false}
+use Rattle.words.proofs.BitLaws.{true-not-false, merge-bit, bit-zero, equal-by-bits}
 use Rattle.words.proofs.QuadLaws.{put-length, merge-quad-word}
 use Rattle.geometry.specs.Banks.{InRange, bankWordsOf}
 use Rattle.geometry.proofs.SizeLaws.{in-range}
@@ -25,17 +25,18 @@ use Rattle.flash.specs.declared.effect.Effect.{Effect}
 use Rattle.flash.specs.Write.{writtenOf}
 use Rattle.flash.specs.Effect.{effect, effectOf}
 use Rattle.resets.specs.Reset.{tornOf, resetDeviceOf, tearOf, restartOf}
-use Rattle.device.specs.State.{State, After}
+use Rattle.device.specs.State.{State, After, bankOf}
 use Rattle.controller.specs.Controller.{Sound}
 use Rattle.controller.proofs.WriteLaws.{by-reset}
-use Rattle.update.specs.Actions.{programmedQuadOf, bankQuadsOf}
+use Rattle.update.specs.Actions.{programmedQuadOf, bankQuadsOf, totalOf}
 use Rattle.update.specs.Start.{clashOf}
 use Rattle.update.specs.PowerFail.{Words, Cut, resetBy}
 use Rattle.update.proofs.WordLaws.{Loses, chosenOf, erased-clash, clash-loses, rises-loses, erase-rises, merge-word, torn-sequence}
 use Rattle.update.proofs.BankLaws.{Programmed, new-sequence, quad-once, sequence-last, sequence-blank, programmed-all, programmed-last}
 use Rattle.update.proofs.BankLaws.{other-word, same-word, words-put}
 use Rattle.update.proofs.PlacedLaws.{placed, bank-new, new-long, compared-placed, put-placed}
-use Rattle.update.proofs.Blocks.{Fixed, Block, Has, stepsIn, quadIn, wordsIn, BankIn, Losing, Phase, oldWord, newWords, newBank}
+use Rattle.update.proofs.Blocks.{Fixed, Block, Has, placeOf, storesIn, stepsIn, quadIn, wordsIn, BankIn, Losing, Phase, oldWord, newWords, newBank}
+use Rattle.update.proofs.PlaceLaws.{total-place}
 use Rattle.update.proofs.Blocks.Block.{prologue, page, quad}
 use Rattle.update.proofs.Blocks.Phase.{storing, stepping, ending, finished}
 use Rattle.update.proofs.BlockStores.{SmallQuad, blank-small, quad-small, new-small, block-rests}
@@ -44,6 +45,10 @@ use Rattle.update.proofs.BlockSteps.{block-codes, block-writes}
 merged-small : (mask x y : List ℕ) → SmallQuad x → SmallQuad y → SmallQuad (mergeQuadOf mask x y)
 merged-small mask x y hx hy k l =
     rw (merge-quad-word mask x y k l) (merge-word (wordAt mask k) (wordAt x k) (wordAt y k) (hx k l) (hy k l))
+
+-- where no bit is torn the old word stays
+merge-nothing : (a b : ℕ) → mergeOf 0 a b ≡ b
+merge-nothing a b = equal-by-bits _ _ (λ k. merge-bit k 0 a b ∙ rw (bit-zero k))
 
 module _ (u : Fixed) where
   open Fixed u using (g, image, b, old, listed, image-long, image-words, valid)
@@ -63,6 +68,18 @@ module _ (u : Fixed) where
   blank-clash : (new : List ℕ) → quadAt new (sequenceQuadOf g) ≡ blankQuad → clashOf (wordAt new (sequenceIndexOf g)) ≡ true
   blank-clash new blank = rw (ap (λ (q : List ℕ). wordAt q 0) blank) erased-clash
 
+  -- quads of a block are left after n steps
+  abbrev LeftIn : Block → ℕ → Type 0
+  LeftIn prologue n = Unit {0}
+  LeftIn (page i) n = Unit {0}
+  LeftIn (quad i) n = i + n < bankQuadsOf g
+
+  still-losing : (k : Block) (n : ℕ) (new : List ℕ) → length new ≡ bankWordsOf g → LeftIn k n → BankIn u k n new → Losing u new
+  still-losing prologue n new long left losing = losing
+  still-losing (page i) n new long left (losing, erased) = losing
+  still-losing (quad i) n new long left (words, programmed) =
+      clashing new words (blank-clash new (sequence-blank g ok new long image (oldWord u) (i + n) left programmed))
+
   pub whole-or-losing : (k : Block) → Has u k → (n : ℕ) (new : List ℕ) → length new ≡ bankWordsOf g → n < suc (stepsIn u k) → BankIn u k n new → Outcome new
   whole-or-losing prologue has n new long l losing = inl losing
   whole-or-losing (page i) has n new long l (losing, erased) = inl losing
@@ -73,7 +90,7 @@ module _ (u : Fixed) where
 
       go : (suc (i + n) ≡ suc (bankQuadsOf g)) ⊎ (suc (i + n) < suc (bankQuadsOf g)) → Outcome new
       go (inl e) = let all : i + n ≡ bankQuadsOf g = omega arith in inr (programmed-all g ok new long image (oldWord u) image-long (rw all at programmed))
-      go (inr m) = inl (clashing new words (blank-clash new (sequence-blank g ok new long image (oldWord u) (i + n) (omega arith) programmed)))
+      go (inr m) = inl (still-losing (quad i) n new long (omega arith) (words, programmed))
 
   -- ---- the new bank after a tear
   erase-torn : (new : List ℕ) → length new ≡ bankWordsOf g → (j : ℕ) (mask : List ℕ) → Losing u new
@@ -108,39 +125,58 @@ module _ (u : Fixed) where
         words-put new (programmedQuadOf g i) (mergeQuadOf mask (newWords u i) blankQuad) (bank .0)
         (merged-small mask (newWords u i) blankQuad (new-small g image (oldWord u) (programmedQuadOf g i) image-words) blank-small)
 
+    programmed : Programmed g image (oldWord u) new i
+    programmed = rw (add-zero i) at (bank .1)
+
+    -- a quad before the last
+    torn-early : suc i < bankQuadsOf g → Losing u torn
+    torn-early l =
+        clashing torn words
+        (rw (other-word g ok new (programmedQuadOf g i) (mergeQuadOf mask (newWords u i) blankQuad) other)
+        (blank-clash new (sequence-blank g ok new long image (oldWord u) i has programmed)))
+      where
+        other : programmedQuadOf g i ≡ sequenceQuadOf g → ⊥
+        other h =
+            let final : suc (bankQuadsOf g - 1) ≡ bankQuadsOf g = omega arith in
+            let same = quad-once g ok i (bankQuadsOf g - 1) has (omega arith) (h ∙ sym (sequence-last g ok (bankQuadsOf g - 1) final)) in
+            omega arith
+
+    -- the last one, the sequence quad
+    module _ (e : suc i ≡ bankQuadsOf g) where
+      last : programmedQuadOf g i ≡ sequenceQuadOf g
+      last = sequence-last g ok i e
+
+      sequence : newWords u i ≡ nextSequenceOf (oldWord u)
+      sequence = rw last (new-sequence g image (oldWord u))
+
+      torn-clash : clashOf (wordAt (mergeQuadOf mask (nextSequenceOf (oldWord u)) blankQuad) 0) ≡ true → Losing u torn
+      torn-clash h = clashing torn words (rw (sequence, last, same-word g ok new _ _ _ _ long) h)
+
+      torn-last : Outcome torn
+      torn-last = by (torn-sequence mask (oldWord u))
+        where
+          by : (mergeQuadOf mask (nextSequenceOf (oldWord u)) blankQuad ≡ nextSequenceOf (oldWord u))
+              ⊎ (clashOf (wordAt (mergeQuadOf mask (nextSequenceOf (oldWord u)) blankQuad) 0) ≡ true) → Outcome torn
+          by (inl same) =
+              inr
+              (rw (sequence, last)
+              (ap (putQuad new (sequenceQuadOf g)) same ∙ programmed-last g ok new long image (oldWord u) i e image-long programmed))
+          by (inr h) = inl (torn-clash h)
+
     program-torn : Outcome torn
     program-torn = go (eq-or-lt-of-le has)
       where
-        programmed : Programmed g image (oldWord u) new i
-        programmed = rw (add-zero i) at (bank .1)
-
         go : (suc i ≡ bankQuadsOf g) ⊎ (suc i < bankQuadsOf g) → Outcome torn
-        go (inl e) = by (torn-sequence mask (oldWord u))
-          where
-            last : programmedQuadOf g i ≡ sequenceQuadOf g
-            last = sequence-last g ok i e
+        go (inl e) = torn-last e
+        go (inr l) = inl (torn-early l)
 
-            sequence : newWords u i ≡ nextSequenceOf (oldWord u)
-            sequence = rw last (new-sequence g image (oldWord u))
-
-            by : (mergeQuadOf mask (nextSequenceOf (oldWord u)) blankQuad ≡ nextSequenceOf (oldWord u))
-                ⊎ (clashOf (wordAt (mergeQuadOf mask (nextSequenceOf (oldWord u)) blankQuad) 0) ≡ true) → Outcome torn
-            by (inl same) =
-                inr
-                (rw (sequence, last)
-                (ap (putQuad new (sequenceQuadOf g)) same ∙ programmed-last g ok new long image (oldWord u) i e image-long programmed))
-            by (inr h) = inl (clashing torn words (rw (sequence, last, same-word g ok new _ _ _ _ long) h))
-        go (inr l) =
-            inl
-            (clashing torn words
-            (rw (other-word g ok new (programmedQuadOf g i) (mergeQuadOf mask (newWords u i) blankQuad) other)
-            (blank-clash new (sequence-blank g ok new long image (oldWord u) i has programmed))))
-          where
-            other : programmedQuadOf g i ≡ sequenceQuadOf g → ⊥
-            other h =
-                let final : suc (bankQuadsOf g - 1) ≡ bankQuadsOf g = omega arith in
-                let same = quad-once g ok i (bankQuadsOf g - 1) has (omega arith) (h ∙ sym (sequence-last g ok (bankQuadsOf g - 1) final)) in
-                omega arith
+    -- where no bit is torn it goes on losing
+    torn-none : wordAt mask 0 ≡ 0 → Losing u torn
+    torn-none none = go (eq-or-lt-of-le has)
+      where
+        go : (suc i ≡ bankQuadsOf g) ⊎ (suc i < bankQuadsOf g) → Losing u torn
+        go (inl e) = torn-clash e (rw (none, merge-nothing (wordAt (nextSequenceOf (oldWord u)) 0) allOnes) erased-clash)
+        go (inr l) = torn-early l
 
   torn-outcome : (k : Block) → Has u k → (n : ℕ) (new : List ℕ) → length new ≡ bankWordsOf g → n < stepsIn u k → BankIn u k n new → (mask : List ℕ)
       → Outcome (putQuad new (quadIn u k n) (mergeQuadOf mask (wordsIn u k) (quadAt new (quadIn u k n))))
@@ -152,12 +188,38 @@ module _ (u : Fixed) where
       rw (ap (λ (q : List ℕ). putQuad new (programmedQuadOf g i) (mergeQuadOf mask (newWords u i) q)) blank)
       (program-torn i has new long (words, rw first at programmed) mask)
 
-  -- ---- the state after a reset that is not declined, of a device d before it
-  pub record AfterCut (d : Device) (kind : ℕ) (r : State) : Type 0 where
+  -- before the last step, and in it where no bit is torn, it goes on losing
+  torn-losing : (k : Block) → Has u k → (n : ℕ) (new : List ℕ) → length new ≡ bankWordsOf g → n < stepsIn u k → BankIn u k n new → (mask : List ℕ)
+      → LeftIn k (suc n) ⊎ (wordAt mask 0 ≡ 0) → Losing u (putQuad new (quadIn u k n) (mergeQuadOf mask (wordsIn u k) (quadAt new (quadIn u k n))))
+  torn-losing prologue has n new long l bank mask left = absurd (omega arith)
+  torn-losing (page i) has n new long l (losing, erased) mask left = erase-torn new long (quadIn u (page i) n) mask losing
+  torn-losing (quad i) has n new long l (words, programmed) mask left =
+      let first : i + n ≡ i + 0 = omega arith in
+      let blank = programmed .blank i (omega arith) has in
+      rw (ap (λ (q : List ℕ). putQuad new (programmedQuadOf g i) (mergeQuadOf mask (newWords u i) q)) blank)
+      (go left (words, rw first at programmed))
+    where
+      go : (i + suc n < bankQuadsOf g) ⊎ (wordAt mask 0 ≡ 0) → BankIn u (quad i) 0 new
+          → Losing u (putQuad new (programmedQuadOf g i) (mergeQuadOf mask (newWords u i) blankQuad))
+      go (inl m) bank = torn-early i has new long bank mask (omega arith)
+      go (inr none) bank = torn-none i has new long bank mask none
+
+  -- a cut before the last step, or in it with no bit torn
+  abbrev pub Early : ℕ → Cut → Type 0
+  Early place c = (place + 2 < totalOf g) ⊎ ((place + 1 < totalOf g) × (wordAt (c .mask) 0 ≡ 0))
+
+  -- ---- the state after a reset that is not declined, at a place, of a device d before it
+  pub record AfterCut (place : ℕ) (d : Device) (c : Cut) (r : State) : Type 0 where
     pub new : List ℕ
     pub long : length new ≡ bankWordsOf g
     pub outcome : Outcome new
-    pub state : r ≡ placed b (resetDeviceOf d kind (chosenOf b (oldWord u) (wordAt new (sequenceIndexOf g)))) old new
+    pub state : r ≡ placed b (resetDeviceOf d (c .kind) (chosenOf b (oldWord u) (wordAt new (sequenceIndexOf g)))) old new
+    pub early : Early place c → Losing u new
+
+  pub after-new : (place : ℕ) (d : Device) (c : Cut) {r : State} (a : AfterCut place d c r) → bankOf r (not b) ≡ a .new
+  after-new place d c a =
+      ap (λ (s : State). bankOf s (not b)) (a .state)
+      ∙ bank-new b (resetDeviceOf d (c .kind) (chosenOf b (oldWord u) (wordAt (a .new) (sequenceIndexOf g)))) old (a .new)
 
   -- it was carried out
   pub carried : (s : State) (c : Cut) → acceptedOf (resetBy g s c .decline) ≡ true → resetBy g s c ≡ restartOf g (tearOf g s (c .sram) (c .mask)) (c .kind)
@@ -169,7 +231,7 @@ module _ (u : Fixed) where
       h
 
   -- the state that it leaves, by what it tore
-  left-as : (d : Device) (new after : List ℕ) (c : Cut) → acceptedOf (resetBy g (placed b d old new) c .decline) ≡ true
+  pub left-as : (d : Device) (new after : List ℕ) (c : Cut) → acceptedOf (resetBy g (placed b d old new) c .decline) ≡ true
       → tearOf g (placed b d old new) (c .sram) (c .mask) ≡ placed b d old after
       → resetBy g (placed b d old new) c .state ≡ placed b (resetDeviceOf d (c .kind) (chosenOf b (oldWord u) (wordAt after (sequenceIndexOf g)))) old after
   left-as d new after c accepted torn =
@@ -188,19 +250,42 @@ module _ (u : Fixed) where
         ∙ rw (on, bank-new b d old new) (put-placed b d old new d j (mergeQuadOf (c .mask) words (quadAt new j)))
 
   pub cut-leaves : (d : Device) (new : List ℕ) (place : ℕ) → Sound g (placed b d old new) → Phase u d new place → (c : Cut)
-      → acceptedOf (resetBy g (placed b d old new) c .decline) ≡ true → AfterCut d (c .kind) (resetBy g (placed b d old new) c .state)
+      → acceptedOf (resetBy g (placed b d old new) c .decline) ≡ true → AfterCut place d c (resetBy g (placed b d old new) c .state)
   cut-leaves d new place sound phase c accepted = go phase
     where
       long : length new ≡ bankWordsOf g
       long = new-long b d old new g sound
 
-      idle : running d ≡ false → Outcome new → AfterCut d (c .kind) (resetBy g (placed b d old new) c .state)
-      idle off outcome = record { new = new; long = long; outcome = outcome; state = left-as d new new c accepted (idle-tear d new c off) }
+      sooner : Early place c → place + 1 < totalOf g
+      sooner (inl l) = omega arith
+      sooner (inr (l, none)) = l
 
-      go : Phase u d new place → AfterCut d (c .kind) (resetBy g (placed b d old new) c .state)
+      idle : running d ≡ false → Outcome new → (Early place c → Losing u new) → AfterCut place d c (resetBy g (placed b d old new) c .state)
+      idle off outcome early =
+          record { new = new; long = long; outcome = outcome; state = left-as d new new c accepted (idle-tear d new c off); early = early }
+
+      none-left : (k : Block) → Has u k → LeftIn k 0
+      none-left prologue has = tt
+      none-left (page i) has = tt
+      none-left (quad i) has = omega arith
+
+      end-left : (k : Block) → place ≡ placeOf u k + (length (storesIn u k) + stepsIn u k) → place + 1 < totalOf g → LeftIn k (stepsIn u k)
+      end-left prologue here l = tt
+      end-left (page i) here l = tt
+      end-left (quad i) here l = omega (arith, total-place g)
+
+      step-left : (k : Block) (n : ℕ) → n < stepsIn u k → place ≡ placeOf u k + (length (storesIn u k) + n) → Early place c
+          → LeftIn k (suc n) ⊎ (wordAt (c .mask) 0 ≡ 0)
+      step-left prologue n few here early = inl tt
+      step-left (page i) n few here early = inl tt
+      step-left (quad i) n few here (inl l) = inl (omega (arith, total-place g))
+      step-left (quad i) n few here (inr (l, none)) = inr none
+
+      go : Phase u d new place → AfterCut place d c (resetBy g (placed b d old new) c .state)
       go (storing p) =
           idle (ap running (p .device) ∙ block-rests u (p .block) (p .within .has) (p .first) (p .within .begins) (p .count) (p .few) .idle)
           (whole-or-losing (p .block) (p .within .has) 0 new long (omega arith) (p .within .bank))
+          (λ early. still-losing (p .block) 0 new long (none-left (p .block) (p .within .has)) (p .within .bank))
       go (stepping p) =
           let j = quadIn u (p .block) (p .count) in
           let words = wordsIn u (p .block) in
@@ -213,8 +298,13 @@ module _ (u : Fixed) where
                 (running-tear d new c (ap running (p .device) ∙ block-codes u (p .block) .on) j words
                 (ap (λ (e : Device). effectOf g (placed b e old new) (c .sram)) (p .device)
                 ∙ block-writes u (p .block) (p .first) (p .count) new (p .within) (p .few) (c .sram)));
+            early =
+                λ early.
+                torn-losing (p .block) (p .within .has) (p .count) new long (p .few) (p .within .bank) (c .mask)
+                (step-left (p .block) (p .count) (p .few) (p .here) early);
           }
       go (ending p) =
           idle (ap running (p .device) ∙ block-codes u (p .block) .end-idle)
           (whole-or-losing (p .block) (p .within .has) (stepsIn u (p .block)) new long (omega arith) (p .within .bank))
-      go (finished p) = idle (p .rest .idle) (inr (p .whole))
+          (λ early. still-losing (p .block) (stepsIn u (p .block)) new long (end-left (p .block) (p .here) (sooner early)) (p .within .bank))
+      go (finished p) = idle (p .rest .idle) (inr (p .whole)) (λ early. let l = sooner early in absurd (omega (arith, p .here)))

@@ -19,6 +19,7 @@ pub mod StandsLaws
 pub mod CutLaws
 pub mod StartLaws
 pub mod RunLaws
+pub mod RestedLaws
 pub mod PowerFail
 pub mod Example
 pub mod KeyLaws

@@ -58,7 +58,8 @@ use Rattle.update.proofs.PhaseLaws.{actionAt, phase-place}
 use Rattle.update.proofs.StandsLaws.{stands-turns, stands-answers, stands-action}
 use Rattle.update.proofs.CutLaws.{Outcome, whole-or-losing}
 use Rattle.update.proofs.StartLaws.{CanStart, accepted-again, declined-whole}
-use Rattle.update.proofs.PowerFail.{new-wins, kept, rested-runs}
+use Rattle.update.proofs.RestedLaws.{new-wins}
+use Rattle.update.proofs.PowerFail.{kept, rested-runs}
 use Rattle.update.proofs.WordLaws.{chosenOf}
 
 pub turns-append : (g : Geometry) (image : List ℕ) (p : Position) (first other : List (List ℕ))

@@ -45,6 +45,11 @@ pub same-placed : (b : Bool) (s t : State) → bankOf t b ≡ bankOf s b → ban
 same-placed true s t old new = (new, old)
 same-placed false s t old new = (old, new)
 
+-- and the other way
+pub same-bank : (s t : State) → SameBanks s t → (second : Bool) → bankOf t second ≡ bankOf s second
+same-bank s t (one, two) true = two
+same-bank s t (one, two) false = one
+
 pub not-both : {A : Type 0} (b : Bool) → b ≡ not b → A
 not-both true e = true-not-false e
 not-both false e = true-not-false (sym e)

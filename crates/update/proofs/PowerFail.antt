@@ -9,36 +9,30 @@ use Prim.Native.Nat.{ℕ, _≤_, _<_}
 use native.Mathlib.Omega.{arith}
 use lib.ListN.{length}
 use borrow.Author.Tests.{le-ltb}
-use Rattle.words.specs.Quad.{wordAt}
 use Rattle.words.specs.Decline.{acceptedOf}
 use Rattle.words.proofs.BitLaws.{true-not-false}
 use Rattle.geometry.specs.declared.banks.Geometry.{Geometry}
 use Rattle.geometry.specs.Banks.{inRangeOf}
-use Rattle.geometry.proofs.SizeLaws.{in-range}
-use Rattle.sequence.specs.Sequence.{sequenceIndexOf, nextSequenceOf}
-use Rattle.device.specs.declared.record.Device.{Device}
-use Rattle.device.specs.Record.{running, bfswap, pfswap}
+use Rattle.device.specs.Record.{running}
 use Rattle.common_declines.specs.Possible.{possibleOf}
 use Rattle.common_declines.proofs.CommonDeclineLaws.{opens}
 use Rattle.start_up.specs.StartUp.{startUpOf}
-use Rattle.resets.specs.Reset.{resetDeclineOf, resetDeviceOf, resetAnswerOf}
+use Rattle.resets.specs.Reset.{resetDeclineOf, resetAnswerOf}
 use Rattle.device.specs.State.{State, bankOf, After}
 use Rattle.controller.specs.Controller.{Operation, Sound}
 use Rattle.controller.proofs.Controller.{controller}
 use Rattle.controller.proofs.WriteLaws.{by-reset}
 use Rattle.update.specs.Actions.{totalOf}
 use Rattle.update.specs.PowerFail.{Position, at, turnsOf, afterTurns, placeAfter, Cut, resetBy, startedUp, restarted, Restarts, old}
-use Rattle.update.specs.PowerFail.{Lower, Runs, newBankOf, SameBanks, OldKept, Words, Update, Claims, PowerFail}
-use Rattle.update.proofs.WordLaws.{chosenOf, next-wins}
-use Rattle.update.proofs.RestartLaws.{Fresh, Started, reset-fresh, reset-quad, start-up-answers, start-up-started, start-up-quad}
-use Rattle.update.proofs.BankLaws.{same-word}
+use Rattle.update.specs.PowerFail.{Lower, Runs, newBankOf, SameBanks, OldKept, Update, Claims, PowerFail}
 use Rattle.update.proofs.TurnLaws.{every-turn, turn-keeps}
-use Rattle.update.proofs.PlacedLaws.{placed, both-placed, same-placed, not-both, bank-old, bank-new}
-use Rattle.update.proofs.Blocks.{Fixed, Finished, Stands, oldWord, newBank}
+use Rattle.update.proofs.PlacedLaws.{placed, same-placed, same-bank, bank-old, bank-new}
+use Rattle.update.proofs.Blocks.{Fixed, Finished, Stands, newBank}
 use Rattle.update.proofs.PhaseLaws.{phase-place}
 use Rattle.update.proofs.StandsLaws.{stands-within, stands-answers, stands-turns, turns-raise}
-use Rattle.update.proofs.CutLaws.{Outcome, AfterCut, cut-leaves}
-use Rattle.update.proofs.StartLaws.{startFixed, start-stands, start-place, start-total, can-start, accepted-again}
+use Rattle.update.proofs.CutLaws.{AfterCut, cut-leaves}
+use Rattle.update.proofs.RestedLaws.{Rested, cut-rests, starts-up, old-bank, new-bank, whole-runs, one-runs, update-again}
+use Rattle.update.proofs.StartLaws.{startFixed, start-stands, start-place, start-total}
 
 -- ---- resets in any state
 -- one of the three kinds with a short SRAM is not declined
@@ -51,7 +45,7 @@ reset-accepted g s c listed sound short kind =
       le-ltb 2 (c .kind) kind,
     )
 
-reset-answers : (g : Geometry) (s : State) (c : Cut) → inRangeOf g ≡ true → Sound g s → length (c .sram) ≤ 16384 → c .kind ≤ 2
+pub reset-answers : (g : Geometry) (s : State) (c : Cut) → inRangeOf g ≡ true → Sound g s → length (c .sram) ≤ 16384 → c .kind ≤ 2
     → acceptedOf (resetBy g s c .decline) ≡ true
 reset-answers g s c listed sound short kind =
     by-reset g s (c .sram) (c .kind) (c .mask) (λ (a : After). acceptedOf (a .decline) ≡ true)
@@ -67,75 +61,10 @@ start-up-declined : (g : Geometry) (s : State) → acceptedOf (startUpOf g (s .d
 unfolding startUpOf
 start-up-declined g s h = rw h
 
--- ---- a sign that is started up after a cut
+-- ---- where the invariant holds
 module _ (u : Fixed) where
-  open Fixed u using (g, image, b, old, listed, image-long, image-words, old-words, valid, more)
+  open Fixed u using (g, image, b, old, listed)
 
-  -- the whole new bank wins
-  pub new-wins : chosenOf b (oldWord u) (wordAt (newBank u) (sequenceIndexOf g)) ≡ not b
-  unfolding nextSequenceOf
-  new-wins = ap (chosenOf b (oldWord u)) (same-word g (in-range g listed) image _ _ _ _ image-long) ∙ next-wins b (oldWord u) valid more
-
-  module _ (d : Device) (can : possibleOf g d ≡ true) (kind : ℕ) (r : State) (a : AfterCut u d kind r) where
-    abbrev chosen : Bool
-    chosen = chosenOf b (oldWord u) (wordAt (a .new) (sequenceIndexOf g))
-
-    abbrev device : Device
-    device = startUpOf g (resetDeviceOf d kind chosen) .device
-
-    fresh : Fresh g chosen (resetDeviceOf d kind chosen)
-    fresh = reset-fresh g listed d can kind chosen
-
-    started : Started g chosen device
-    started = start-up-started g chosen (resetDeviceOf d kind chosen) fresh
-
-    starts-up : acceptedOf (startUpOf g (r .device) .decline) ≡ true
-    starts-up = ap (λ (s : State). acceptedOf (startUpOf g (s .device) .decline)) (a .state) ∙ start-up-answers g chosen (resetDeviceOf d kind chosen) fresh
-
-    sign : startedUp g r ≡ placed b device old (a .new)
-    sign = ap (startedUp g) (a .state)
-
-    old-bank : bankOf (startedUp g r) b ≡ old
-    old-bank = ap (λ (s : State). bankOf s b) sign ∙ bank-old b device old (a .new)
-
-    new-bank : bankOf (startedUp g r) (not b) ≡ a .new
-    new-bank = ap (λ (s : State). bankOf s (not b)) sign ∙ bank-new b device old (a .new)
-
-    lower : (t : Bool) → chosen ≡ t → Lower (startedUp g r) t
-    lower t h = (
-      ap (λ (s : State). bfswap (s .device)) sign ∙ started .boot ∙ h,
-      ap (λ (s : State). pfswap (s .device)) sign ∙ started .program ∙ h,
-    )
-
-    -- where the new bank is whole it runs
-    whole-runs : a .new ≡ newBank u → Runs (startedUp g r) (not b) (newBank u)
-    whole-runs h = (lower (not b) (ap (λ (l : List ℕ). chosenOf b (oldWord u) (wordAt l (sequenceIndexOf g))) h ∙ new-wins), new-bank ∙ h)
-
-    one-runs : Runs (startedUp g r) b old ⊎ Runs (startedUp g r) (not b) (newBank u)
-    one-runs = go (a .outcome)
-      where
-        go : Outcome u (a .new) → Runs (startedUp g r) b old ⊎ Runs (startedUp g r) (not b) (newBank u)
-        go (inl losing) = inl (lower b (losing .loses .chosen), old-bank)
-        go (inr h) = inr (whole-runs h)
-
-    -- where the old one does, the same start is an update again
-    update-again : length (d .nvmdata) ≡ 4 → Lower (startedUp g r) b → Update g (startedUp g r) image
-    update-again four runs = go (a .outcome)
-      where
-        go : Outcome u (a .new) → Update g (startedUp g r) image
-        go (inl losing) =
-            let (one, two) = both-placed Words b old (a .new) old-words (losing .words) in
-            rw sign
-            (record {
-              accepted = accepted-again u device (a .new) (a .long) losing (can-start g b device (rw (losing .loses .chosen) at started));
-              one-words = one;
-              two-words = two;
-              new-words = image-words;
-              quad = start-up-quad g chosen (resetDeviceOf d kind chosen) fresh (reset-quad d kind chosen four);
-            })
-        go (inr h) = not-both b (sym (runs .0) ∙ whole-runs h .0 .0)
-
-  -- ---- where the invariant holds
   module _ (p : Position) (stands : Stands u p) where
     pub kept : bankOf (p .state) b ≡ old
     kept = ap (λ (s : State). bankOf s b) (stands .state) ∙ bank-old b (stands .device) old (stands .new)
@@ -155,27 +84,30 @@ module _ (u : Fixed) where
       done-bank : bankOf (p .state) (not b) ≡ newBank u
       done-bank = ap (λ (s : State). bankOf s (not b)) (stands .state) ∙ bank-new b (stands .device) old (stands .new) ∙ done .whole
 
-      done-idle : running (p .state .device) ≡ false
+      pub done-idle : running (p .state .device) ≡ false
       done-idle = ap (λ (s : State). running (s .device)) (stands .state) ∙ done .rest .idle
 
     module _ (c : Cut) where
-      leaves : acceptedOf (resetBy g (p .state) c .decline) ≡ true → AfterCut u (stands .device) (c .kind) (resetBy g (p .state) c .state)
-      leaves = go (p .state) (stands .state) (stands .sound)
+      pub cut-left : acceptedOf (resetBy g (p .state) c .decline) ≡ true → AfterCut u (p .place) (stands .device) c (resetBy g (p .state) c .state)
+      cut-left = go (p .state) (stands .state) (stands .sound)
         where
           go : (s : State) → s ≡ placed b (stands .device) old (stands .new) → Sound g s → acceptedOf (resetBy g s c .decline) ≡ true
-              → AfterCut u (stands .device) (c .kind) (resetBy g s c .state)
+              → AfterCut u (p .place) (stands .device) c (resetBy g s c .state)
           go s e sound = rw e (cut-leaves u (stands .device) (stands .new) (p .place) (rw e at sound) (stands .phase) c)
+
+      pub leaves : acceptedOf (resetBy g (p .state) c .decline) ≡ true → Rested u (resetBy g (p .state) c .state)
+      leaves accepted = cut-rests u (p .place) (stands .device) can (stands .quad) c _ (cut-left accepted)
 
       restarts : length (c .sram) ≤ 16384 → c .kind ≤ 2 → Restarts g (p .state) c
       restarts short kind =
           let accepted = reset-answers g (p .state) c listed (stands .sound) short kind in
-          record { reset = accepted; start-up = starts-up (stands .device) can (c .kind) (resetBy g (p .state) c .state) (leaves accepted) }
+          record { reset = accepted; start-up = starts-up u (resetBy g (p .state) c .state) (leaves accepted) }
 
       pub kept-reset : bankOf (resetBy g (p .state) c .state) b ≡ old
       kept-reset = go (acceptedOf (resetBy g (p .state) c .decline)) refl
         where
           go : (t : Bool) → acceptedOf (resetBy g (p .state) c .decline) ≡ t → bankOf (resetBy g (p .state) c .state) b ≡ old
-          go true h = old-bank (stands .device) can (c .kind) (resetBy g (p .state) c .state) (leaves h)
+          go true h = old-bank u (resetBy g (p .state) c .state) (leaves h)
           go false h =
               ap (λ (s : State). bankOf s b) (controller .declined-same g (p .state) (Operation.reset (c .sram) (c .kind) (c .mask)) h) ∙ kept
 
@@ -185,13 +117,8 @@ module _ (u : Fixed) where
       rested-runs off whole accepted =
           let r = resetBy g (p .state) c .state in
           let cut = leaves accepted in
-          let same = sym (new-bank (stands .device) can (c .kind) r cut) ∙ either b (reset-idle g (p .state) c off) in
-          whole-runs (stands .device) can (c .kind) r cut (same ∙ whole)
-        where
-          either : (t : Bool) → SameBanks (p .state) (resetBy g (p .state) c .state)
-              → bankOf (resetBy g (p .state) c .state) (not t) ≡ bankOf (p .state) (not t)
-          either true (one, two) = one
-          either false (one, two) = two
+          let same = sym (new-bank u r cut) ∙ same-bank (p .state) r (reset-idle g (p .state) c off) (not b) in
+          whole-runs u r cut (same ∙ whole)
 
 -- ---- run A and run B of an accepted update
 module _ (g : Geometry) (s : State) (image : List ℕ) (update : Update g s image) where
@@ -233,21 +160,18 @@ module _ (g : Geometry) (s : State) (image : List ℕ) (update : Update g s imag
       b = afterTurns g s image B
 
       module _ (c : Cut) (restart : Restarts g b c) where
-        can-b : possibleOf g (stands B .device) ≡ true
-        can-b = can u (turnsOf g image (at s 0) B) (stands B)
-
-        after-b : AfterCut u (stands B .device) (c .kind) (resetBy g b c .state)
+        after-b : Rested u (resetBy g b c .state)
         after-b = leaves u (turnsOf g image (at s 0) B) (stands B) c (restart .reset)
 
         old-or-new : Runs (restarted g b c) (old s) (bankOf s (old s)) ⊎ Runs (restarted g b c) (not (old s)) (bankOf a (not (old s)))
-        old-or-new = rw new-left (one-runs u (stands B .device) can-b (c .kind) (resetBy g b c .state) after-b)
+        old-or-new = rw new-left (one-runs u (resetBy g b c .state) after-b)
 
         module _ (runs : Lower (restarted g b c) (old s)) where
           again : Update g (restarted g b c) image
-          again = update-again u (stands B .device) can-b (c .kind) (resetBy g b c .state) after-b (stands B .quad) runs
+          again = update-again u (resetBy g b c .state) after-b runs
 
           ends : (C : List (List ℕ)) → placeAfter g (restarted g b c) image C ≡ totalOf g → SameBanks a (afterTurns g (restarted g b c) image C)
-          ends = same-end (restarted g b c) again (runs .0) (old-bank u (stands B .device) can-b (c .kind) (resetBy g b c .state) after-b)
+          ends = same-end (restarted g b c) again (runs .0) (old-bank u (resetBy g b c .state) after-b)
 
       all-claims : Claims g s image a b
       all-claims =

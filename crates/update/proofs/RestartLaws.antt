@@ -1,18 +1,21 @@
 -- A reset clears WR, WREN and both swap bits, sets BFSWAP as compared, and gives protection and SWAPLOCK their reset values. So the
 -- start-up after it finds the device at rest with the swap unlocked: where BFSWAP is 1 it sets PFSWAP, and it leaves BFSWAP and the protection.
+-- A start-up that is cut leaves the swap unlocked, or PFSWAP as BFSWAP is, and so the next one ends the same.
 -- No store and no step changes how many words NVMDATA has.
 -- Assumes nothing.
 use mathlib.Core.Path.{_≡_, refl, sym, ap, _∙_}
-use mathlib.Core.Bool.{Bool, true, false, _&&_, or-true, or-false, and-false}
+use mathlib.Core.Bool.{Bool, true, false, _&&_, _||_, or-true, or-false, and-false}
 use mathlib.Core.List.{List, [], _∷_, _++_}
-use Prim.Native.Nat.{ℕ, _+_, _^_}
+use mathlib.Core.Logic.{_⊎_, inl, inr}
+use Prim.Native.Nat.{ℕ, zero, suc, _+_, _^_, _<_}
+use native.Mathlib.Decide.{ℕ-discrete}
 use native.Mathlib.Omega.{arith}
 use lib.Dec.{eqb, lit<}
-use lib.ListN.{length, length-set}
+use lib.ListN.{length, take, length-set}
 use lib.Bits.{bitAnd, bitOr}
 use Rattle.words.specs.Word.{pick, bit, hasOf, mergeOf, clearOf}
-use Rattle.words.proofs.PickLaws.{pick-both}
-use Rattle.words.proofs.BitLaws.{true-not-false, bit-and, bit-or, merge-bit, clear-bit, bit-zero, equal-by-bits, has-bit}
+use Rattle.words.proofs.PickLaws.{pick-same, pick-both}
+use Rattle.words.proofs.BitLaws.{true-not-false, bit-and, bit-or, merge-bit, clear-bit, bit-zero, equal-by-bits, bit-other, has-bit}
 use Rattle.words.proofs.MaskLaws.{merge-set}
 use Rattle.geometry.specs.declared.banks.Geometry.{Geometry}
 use Rattle.geometry.specs.Banks.{inRangeOf}
@@ -139,7 +142,7 @@ store-quad g d r form value =
     Q quad = length quad ≡ length (d .nvmdata)
 
 -- and so do stores in a row
-stores-quad : (g : Geometry) (d : Device) (l : List Access) → length (storesOf g d l .nvmdata) ≡ length (d .nvmdata)
+pub stores-quad : (g : Geometry) (d : Device) (l : List Access) → length (storesOf g d l .nvmdata) ≡ length (d .nvmdata)
 stores-quad g d [] = refl
 stores-quad g d (a ∷ l) = stores-quad g _ l ∙ store-quad g d (a .register) (a .form) (a .value)
 
@@ -173,7 +176,16 @@ locked g swap d at =
       pwp = rw runs (at .pwp);
     }
 
--- NVMCON set 0x80 with the key open and the swap unlocked sets PFSWAP
+-- NVMCON set 0x80 asks for no launch
+swap-asks-no-launch : (g : Geometry) (d : Device) → AtRest g d → hasOf (bitOr (d .nvmcon .0) PFSWAP) WR ≡ false
+swap-asks-no-launch g d rest =
+    has-bit 15 (bitOr (d .nvmcon .0) PFSWAP) ∙ bit-or 15 (d .nvmcon .0) PFSWAP ∙ or-false (bit 15 (d .nvmcon .0)) ∙ wr-off g d rest
+
+-- what is merged with itself stays
+merge-self : (t c : ℕ) → mergeOf t c c ≡ c
+merge-self t c = equal-by-bits _ _ (λ k. merge-bit k t c c ∙ pick-same (bit k t) (bit k c))
+
+-- with the key open and the swap unlocked it sets PFSWAP
 module _ (g : Geometry) (d : Device) (rest : AtRest g d) (off : hasOf (d .nvmcon .0) WREN ≡ false)
     (free : hasOf (d .nvmcon2 .0) SWAPLOCK ≡ false) (key : isOpen d ≡ true) where
   takes-swap : conTakesOf d ≡ WREN + NVMOP + (PFSWAP + BFSWAP)
@@ -184,22 +196,63 @@ module _ (g : Geometry) (d : Device) (rest : AtRest g d) (off : hasOf (d .nvmcon
   unfolding hasFormOf storeAcceptedOf registerOf conStoreOf launchesOf
   set-swap =
       store-runs g d rest 0 2 0x80 refl
-      ∙ rw idle
+      ∙ rw (swap-asks-no-launch g d rest)
       (ap (λ (c : ℕ). accepted (withCon d c 0 (d .step)) false)
       (rw takes-swap (merge-set 0x40CF (d .nvmcon .0) PFSWAP (record { inside = refl }))))
-    where
-      idle : hasOf (bitOr (d .nvmcon .0) PFSWAP) WR ≡ false
-      idle = has-bit 15 (bitOr (d .nvmcon .0) PFSWAP) ∙ bit-or 15 (d .nvmcon .0) PFSWAP ∙ or-false (bit 15 (d .nvmcon .0)) ∙ wr-off g d rest
 
--- after a reset it is not declined
-module _ (g : Geometry) (swap : Bool) (e : Device) (fresh : Fresh g swap e) where
-  fresh-answers : acceptedOf (startUpDeclineOf g e) ≡ true
+-- ---- between a reset and the end of a start-up
+-- PFSWAP is as BFSWAP, or 0 with the swap still unlocked
+pub record Waking (g : Geometry) (swap : Bool) (e : Device) : Type 0 where
+  pub rest : AtRest g e
+  pub boot : bfswap e ≡ swap
+  pub wren : hasOf (e .nvmcon .0) WREN ≡ false
+  pub lock : hasOf (e .nvmbwp .0) UBWPULOCK ≡ true
+  pub pwp : pwpOf e ≡ 0
+  pub program : (pfswap e ≡ swap) ⊎ ((pfswap e ≡ false) × (hasOf (e .nvmcon2 .0) SWAPLOCK ≡ false))
+
+pub fresh-wakes : (g : Geometry) (swap : Bool) (e : Device) → Fresh g swap e → Waking g swap e
+fresh-wakes g swap e fresh =
+    record {
+      rest = fresh .rest;
+      boot = fresh .boot;
+      wren = fresh .wren;
+      lock = fresh .lock;
+      pwp = fresh .pwp;
+      program = inr (fresh .program, fresh .swaplock);
+    }
+
+started-wakes : (g : Geometry) (swap : Bool) (e : Device) → Started g swap e → hasOf (e .nvmcon .0) WREN ≡ false → Waking g swap e
+started-wakes g swap e at off =
+    record { rest = at .rest; boot = at .boot; wren = off; lock = at .lock; pwp = at .pwp; program = inl (at .program) }
+
+-- NVMCON set 0x80 with PFSWAP at 1 leaves NVMCON as it is
+module _ (g : Geometry) (d : Device) (rest : AtRest g d) (on : pfswap d ≡ true) where
+  has-swap : bitOr (d .nvmcon .0) PFSWAP ≡ d .nvmcon .0
+  has-swap = equal-by-bits _ _ (λ k. bit-or k (d .nvmcon .0) PFSWAP ∙ go k (ℕ-discrete k 7))
+    where
+      seven : bit 7 (d .nvmcon .0) ≡ true
+      seven = sym (has-bit 7 (d .nvmcon .0)) ∙ on
+
+      go : (k : ℕ) → Dec (k ≡ 7) → (bit k (d .nvmcon .0) || bit k PFSWAP) ≡ bit k (d .nvmcon .0)
+      go k (yes e) = rw (e, seven)
+      go k (no ne) = rw (bit-other 7 k (λ e. ne (sym e))) (or-false (bit k (d .nvmcon .0)))
+
+  set-again : storeOf g d 0 2 0x80 ≡ accepted (withCon d (bitOr (d .nvmcon .0) PFSWAP) 0 (d .step)) false
+  unfolding hasFormOf storeAcceptedOf registerOf conStoreOf launchesOf
+  set-again =
+      store-runs g d rest 0 2 0x80 refl
+      ∙ rw (swap-asks-no-launch g d rest)
+      (ap (λ (c : ℕ). accepted (withCon d c 0 (d .step)) false) (rw has-swap (merge-self (conTakesOf d) (d .nvmcon .0))))
+
+-- so it is not declined
+module _ (g : Geometry) (swap : Bool) (e : Device) (wakes : Waking g swap e) where
+  pub waking-answers : acceptedOf (startUpDeclineOf g e) ≡ true
   unfolding startUpDeclineOf
-  fresh-answers = rw (rest-opens g e (fresh .rest), fresh .rest .idle)
+  waking-answers = rw (rest-opens g e (wakes .rest), wakes .rest .idle)
 
   pub start-up-answers : acceptedOf (startUpOf g e .decline) ≡ true
   unfolding startUpOf
-  start-up-answers = fresh-answers
+  start-up-answers = waking-answers
 
   -- the device with the key open, and after the store that swaps
   opened : Device
@@ -210,53 +263,109 @@ module _ (g : Geometry) (swap : Bool) (e : Device) (fresh : Fresh g swap e) wher
 
   opened-rest : AtRest g opened
   unfolding opened
-  opened-rest = key-rest g e (fresh .rest) 3 (omega arith)
+  opened-rest = key-rest g e (wakes .rest) 3 (omega arith)
 
-  set-opened : storeOf g opened 0 2 0x80 ≡ accepted swapped false
-  unfolding opened swapped
-  set-opened = set-swap g opened opened-rest (fresh .wren) (fresh .swaplock) refl
+  -- where the stores that swap are done, since BFSWAP is 1
+  module _ (on : swap ≡ true) where
+    set-opened : storeOf g opened 0 2 0x80 ≡ accepted swapped false
+    unfolding opened swapped
+    set-opened = go (wakes .program)
+      where
+        go : (pfswap e ≡ swap) ⊎ ((pfswap e ≡ false) × (hasOf (e .nvmcon2 .0) SWAPLOCK ≡ false)) → storeOf g opened 0 2 0x80 ≡ accepted swapped false
+        go (inl same) = set-again g opened opened-rest (same ∙ on)
+        go (inr (off, free)) = set-swap g opened opened-rest (wakes .wren) free refl
 
-  swap-runs : storesOf g e (keyStores ++ access 0 2 0x80 ∷ []) ≡ swapped
-  unfolding opened
-  swap-runs =
-      stores-append g e keyStores (access 0 2 0x80 ∷ [])
-      ∙ ap (λ (d : Device). storesOf g d (access 0 2 0x80 ∷ [])) (keys-open g e (fresh .rest))
-      ∙ ap (λ (s : Answer). s .device) set-opened
+    swap-runs : storesOf g e (keyStores ++ access 0 2 0x80 ∷ []) ≡ swapped
+    unfolding opened
+    swap-runs =
+        stores-append g e keyStores (access 0 2 0x80 ∷ [])
+        ∙ ap (λ (d : Device). storesOf g d (access 0 2 0x80 ∷ [])) (keys-open g e (wakes .rest))
+        ∙ ap (λ (s : Answer). s .device) set-opened
 
-  swapped-rest : AtRest g swapped
-  unfolding hasFormOf
-  swapped-rest = rw set-opened at (no-launch-rests g opened opened-rest (access 0 2 0x80) (record { form = refl; word = lit< tt; off = refl }))
+    swapped-rest : AtRest g swapped
+    unfolding hasFormOf
+    swapped-rest = rw set-opened at (no-launch-rests g opened opened-rest (access 0 2 0x80) (record { form = refl; word = lit< tt; off = refl }))
+
+    swapped-wren : hasOf (swapped .nvmcon .0) WREN ≡ false
+    unfolding swapped
+    swapped-wren =
+        let con = e .nvmcon .0 in
+        has-bit 14 (bitOr con PFSWAP) ∙ bit-or 14 con PFSWAP ∙ or-false (bit 14 con) ∙ sym (has-bit 14 con) ∙ wakes .wren
 
   swapped-started : swap ≡ true → Started g swap swapped
   unfolding swapped
   swapped-started on =
       record {
-        rest = swapped-rest;
-        boot = has-bit 6 (bitOr con PFSWAP) ∙ bit-or 6 con PFSWAP ∙ or-false (bit 6 con) ∙ sym (has-bit 6 con) ∙ fresh .boot;
+        rest = swapped-rest on;
+        boot = has-bit 6 (bitOr con PFSWAP) ∙ bit-or 6 con PFSWAP ∙ or-false (bit 6 con) ∙ sym (has-bit 6 con) ∙ wakes .boot;
         program = has-bit 7 (bitOr con PFSWAP) ∙ bit-or 7 con PFSWAP ∙ or-true (bit 7 con) ∙ sym on;
-        lock = fresh .lock;
-        pwp = fresh .pwp;
+        lock = wakes .lock;
+        pwp = wakes .pwp;
       }
     where
       con : ℕ
       con = e .nvmcon .0
 
+  -- where BFSWAP is 0 PFSWAP is, too
+  unswapped : swap ≡ false → Started g swap e
+  unswapped off = record { rest = wakes .rest; boot = wakes .boot; program = go (wakes .program); lock = wakes .lock; pwp = wakes .pwp }
+    where
+      go : (pfswap e ≡ swap) ⊎ ((pfswap e ≡ false) × (hasOf (e .nvmcon2 .0) SWAPLOCK ≡ false)) → pfswap e ≡ swap
+      go (inl same) = same
+      go (inr (none, free)) = none ∙ sym off
+
   stores-started : Started g swap (storesOf g e (startUpStores e))
   unfolding startUpStores
-  stores-started = rw (fresh .boot) (go swap refl)
+  stores-started = rw (wakes .boot) (go swap refl)
     where
       go : (t : Bool) → swap ≡ t → Started g swap (storesOf g e (pick t (keyStores ++ access 0 2 0x80 ∷ []) [] ++ access 10 2 0xC0 ∷ []))
       go true on =
-          rw (stores-append g e (keyStores ++ access 0 2 0x80 ∷ []) (access 10 2 0xC0 ∷ []), swap-runs)
+          rw (stores-append g e (keyStores ++ access 0 2 0x80 ∷ []) (access 10 2 0xC0 ∷ []), swap-runs on)
           (locked g swap swapped (swapped-started on))
-      go false off =
-          locked g swap e
-          (record { rest = fresh .rest; boot = fresh .boot; program = fresh .program ∙ sym off; lock = fresh .lock; pwp = fresh .pwp })
+      go false off = locked g swap e (unswapped off)
 
   pub start-up-started : Started g swap (startUpOf g e .device)
   unfolding startUpOf
-  start-up-started = rw fresh-answers stores-started
+  start-up-started = rw waking-answers stores-started
 
   pub start-up-quad : length (e .nvmdata) ≡ 4 → length (startUpOf g e .device .nvmdata) ≡ 4
   unfolding startUpOf
-  start-up-quad four = rw fresh-answers (stores-quad g e (startUpStores e) ∙ four)
+  start-up-quad four = rw waking-answers (stores-quad g e (startUpStores e) ∙ four)
+
+  -- ---- a start-up that is cut
+  key-wakes : (d : Device) → Waking g swap d → (value : ℕ) → value < 2 ^ 32 → Waking g swap (storeOf g d 1 0 value .device)
+  unfolding hasFormOf storeAcceptedOf appliedOf
+  key-wakes d at value word =
+      let runs = store-runs g d (at .rest) 1 0 value refl in
+      record {
+        rest = no-launch-rests g d (at .rest) (access 1 0 value) (record { form = refl; word = word; off = refl });
+        boot = rw runs (at .boot);
+        wren = rw runs (at .wren);
+        lock = rw runs (at .lock);
+        pwp = rw runs (at .pwp);
+        program = rw runs (at .program);
+      }
+
+  locked-wakes : (d : Device) → Started g swap d → hasOf (d .nvmcon .0) WREN ≡ false → Waking g swap (storeOf g d 10 2 0xC0 .device)
+  unfolding hasFormOf storeAcceptedOf appliedOf
+  locked-wakes d at off = started-wakes g swap _ (locked g swap d at) (rw (store-runs g d (at .rest) 10 2 0xC0 refl) off)
+
+  pub cut-wakes : (n : ℕ) → Waking g swap (storesOf g e (take n (startUpStores e)))
+  unfolding startUpStores
+  cut-wakes n = rw (wakes .boot) (go swap refl n)
+    where
+      nothing : (n : ℕ) → take {A = Access} n [] ≡ []
+      nothing zero = refl
+      nothing (suc n) = refl
+
+      go : (t : Bool) → swap ≡ t → (n : ℕ) → Waking g swap (storesOf g e (take n (pick t (keyStores ++ access 0 2 0x80 ∷ []) [] ++ access 10 2 0xC0 ∷ [])))
+      go false off zero = wakes
+      go false off (suc n) = rw (nothing n) (locked-wakes e (unswapped off) (wakes .wren))
+      go true on zero = wakes
+      go true on (suc zero) = key-wakes e wakes 0 (lit< tt)
+      go true on (suc (suc zero)) = key-wakes _ (key-wakes e wakes 0 (lit< tt)) 0xAA99_6655 (lit< tt)
+      go true on (suc (suc (suc zero))) = key-wakes _ (key-wakes _ (key-wakes e wakes 0 (lit< tt)) 0xAA99_6655 (lit< tt)) 0x5566_99AA (lit< tt)
+      go true on (suc (suc (suc (suc zero)))) = rw (swap-runs on) (started-wakes g swap swapped (swapped-started on) (swapped-wren on))
+      go true on (suc (suc (suc (suc (suc n))))) =
+          rw (nothing n, stores-append g e (keyStores ++ access 0 2 0x80 ∷ []) (access 10 2 0xC0 ∷ []), swap-runs on)
+          (locked-wakes swapped (swapped-started on) (swapped-wren on))
