@@ -46,10 +46,10 @@ example-update =
     }
 
 -- its 252 turns
-total-is : totalOf smallest ≡ 252
+pub total-is : totalOf smallest ≡ 252
 total-is = bench .total-small smallest refl refl
 
-empty-short : (n i : ℕ) → length (getD (emptySrams n) i []) ≤ 16384
+pub empty-short : (n i : ℕ) → length (getD (emptySrams n) i []) ≤ 16384
 empty-short zero i = omega arith
 empty-short (suc n) zero = omega arith
 empty-short (suc n) (suc i) = empty-short n i
@@ -58,7 +58,7 @@ reached : placeAfter smallest exampleState exampleImage (emptySrams 252) ≡ tot
 reached = power-fail smallest exampleImage .reaches exampleState example-update (emptySrams 252) (empty-short 252) (rw (length-replicate, total-is))
 
 -- the new bank, by computation
-new-bank : newBankOf smallest exampleState exampleImage ≡ benchBank 0xFFFD_0002
+pub new-bank : newBankOf smallest exampleState exampleImage ≡ benchBank 0xFFFD_0002
 unfolding nextSequenceOf sequenceWordOf complementOf
 new-bank = refl
 

@@ -28,3 +28,7 @@ pub mod Reasons
 pub mod LargerTotals
 pub mod MoveLaws
 pub mod Moves
+pub mod TryLaws
+pub mod Tries
+pub mod OneTry
+pub mod ThreeTries

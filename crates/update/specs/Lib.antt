@@ -9,3 +9,6 @@ pub mod Probes
 pub mod Reasons
 pub mod LargerTotals
 pub mod Moves
+pub mod Tries
+pub mod OneTry
+pub mod ThreeTries
