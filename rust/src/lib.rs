@@ -26,6 +26,7 @@
 
 mod bank_calls;
 mod compare;
+mod cut_start_up;
 mod decline;
 mod device;
 mod device_calls;
@@ -41,6 +42,7 @@ mod update_calls;
 
 pub use bank_calls::{flash_read, lower_bank, page, reset, step, FlashRead, Restarted, Stepped};
 pub use compare::{compare, Compared, Reason};
+pub use cut_start_up::{cut_start_up, start_up_stores};
 pub use decline::Decline;
 pub use device::{Bank, Device, Operands};
 pub use device_calls::{register_read, start_up, store, RegisterRead, Stored};
