@@ -1,6 +1,8 @@
 //! Call cases: parsing a line, making the call, printing what stands right of the bar.
 
+mod moves;
 mod requests;
+mod runs;
 mod shapes;
 mod walks;
 
@@ -71,7 +73,7 @@ impl Case {
         match shape.rest {
             Rest::Nothing => {}
             Rest::Pairs => case.numbers.extend(take_pairs(numbers)?),
-            Rest::Moves => case.numbers.extend(walks::take_moves(numbers)?),
+            Rest::Moves(counts) => case.numbers.extend(moves::take_moves(counts, numbers)?),
         }
         Some(case)
     }
@@ -113,6 +115,7 @@ impl Case {
             Call::Protected => vec![u32::from(self.answer_protected()?)],
             Call::ValidBySum => vec![u32::from(valid(self.numbers[0]))],
             Call::Walk => self.answer_walk(),
+            Call::Run => self.answer_run()?,
             _ => match self.answer_call() {
                 Ok(mut outputs) => {
                     outputs.insert(0, 0);

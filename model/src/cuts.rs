@@ -1,8 +1,8 @@
 //! Whole updates cut at every place, and lists with a flash read, cut after it and inside it: what the program `cuts` prints.
 
-use crate::device::{Device, BFSWAP, NVMCON, PFSWAP};
+use crate::device::Device;
 use crate::flash::{flash_read, reset, step};
-use crate::geometry::{Banks, Geometry, Kind, Side, ALL_ONES};
+use crate::geometry::{Bank, Banks, Geometry, Kind, Side, ALL_ONES};
 use crate::store::start_up;
 use crate::update::{turn, update_start};
 use crate::{Answer, Refusal};
@@ -61,11 +61,7 @@ impl State {
             Ok(device) => self.device = device,
             Err(_) => return 0,
         }
-        match self.device.registers[NVMCON] & (BFSWAP | PFSWAP) {
-            0 => 1,
-            swaps if swaps == BFSWAP | PFSWAP => 2,
-            _ => 0,
-        }
+        self.device.running_bank().map_or(0, Bank::number)
     }
 }
 

@@ -167,6 +167,12 @@ impl Device {
     pub fn lower_alias_bank(&self) -> Bank {
         self.bank_at(Kind::Boot, Side::Lower)
     }
+
+    /// "the bank that BFSWAP and PFSWAP both put lower"; none where they differ.
+    pub fn running_bank(&self) -> Option<Bank> {
+        let lower = self.lower_alias_bank();
+        (lower == self.bank_at(Kind::Program, Side::Lower)).then_some(lower)
+    }
 }
 
 /// Whether a page of a window is protected; protection follows the mapping.

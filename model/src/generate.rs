@@ -11,6 +11,7 @@ mod reaches;
 mod record_edges;
 mod scripts;
 mod sheets;
+mod tries;
 mod walks;
 mod write_scripts;
 
@@ -18,6 +19,7 @@ pub use memory::{old_bank_one, random_image};
 pub use places::{accepted_start, Start};
 pub use record_edges::{record_edges, refused_scripts};
 pub use scripts::script;
+pub use tries::random_try;
 
 use crate::cases::{Case, Shape, BASE, SHAPES};
 use crate::random::Random;

@@ -18,6 +18,7 @@ pub mod script;
 pub mod sequence;
 pub mod sheet;
 pub mod store;
+pub mod tries;
 pub mod update;
 pub mod write_script;
 

@@ -216,17 +216,30 @@ pub fn register_read(numbers: [u32; 3], device: Device, register: u32) -> Answer
     Ok((device.registers[row] & MASKS[row], after))
 }
 
-/// "if BFSWAP = 1, the three key stores and NVMCON set 0x80; always then NVMCON2 set 0xC0".
+/// Register, form and value of a start-up's stores: "if BFSWAP = 1, the three key stores and NVMCON set 0x80; always then NVMCON2
+/// set 0xC0".
+pub fn start_up_stores(device: &Device) -> Vec<(u32, u32, u32)> {
+    let mut stores = Vec::new();
+    if device.con(BFSWAP) {
+        stores.extend(KEYS.map(|key| (NVMKEY as u32, PLAIN, key)));
+        stores.push((NVMCON as u32, SET, 0x80));
+    }
+    stores.push((NVMCON2 as u32, SET, 0xC0));
+    stores
+}
+
+/// A completed start-up.
 pub fn start_up(numbers: [u32; 3], device: Device) -> Answer<Device> {
+    cut_start_up(numbers, device, u32::MAX)
+}
+
+/// W-212: the first stores of a start-up, all where it has fewer; then the supply fails.
+pub fn cut_start_up(numbers: [u32; 3], device: Device, count: u32) -> Answer<Device> {
     let geometry = Geometry::new(numbers)?;
     check_device(&geometry, &device)?;
     check_idle(&device)?;
-    let mut after = device;
-    if device.con(BFSWAP) {
-        for key in KEYS {
-            after = apply_store(&geometry, after, NVMKEY as u32, PLAIN, key).0;
-        }
-        after = apply_store(&geometry, after, NVMCON as u32, SET, 0x80).0;
-    }
-    Ok(apply_store(&geometry, after, NVMCON2 as u32, SET, 0xC0).0)
+    let stores = start_up_stores(&device).into_iter().take(count as usize);
+    Ok(stores.fold(device, |after, (register, form, value)| {
+        apply_store(&geometry, after, register, form, value).0
+    }))
 }

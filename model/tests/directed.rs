@@ -35,13 +35,24 @@ fn numbers(case: &Case) -> Vec<u32> {
         .collect()
 }
 
+/// A list of calls has no answer of its own. A run ends with the bank that runs; what a walk changed in the banks follows the device.
+fn list_outcome(case: &Case, numbers: &[u32]) -> String {
+    let old = case.device.lower_alias_bank().number();
+    let text = match (case.call, numbers[numbers.len() - 1]) {
+        (Call::Run, 0) => "none",
+        (Call::Run, bank) if bank == old => "old",
+        (Call::Run, _) => "new",
+        _ if numbers[3 * case.numbers[0] as usize + DEVICE] > 0 => "written",
+        _ => "untouched",
+    };
+    String::from(text)
+}
+
 /// What became of a case, in a few words.
 fn outcome(case: &Case) -> String {
     let numbers = numbers(case);
-    if case.call == Call::Walk {
-        // A walk has no answer of its own; what its moves changed in the banks follows the device.
-        let changed = numbers[3 * case.numbers[0] as usize + DEVICE];
-        return String::from(if changed > 0 { "written" } else { "untouched" });
+    if case.call.moves().is_some() {
+        return list_outcome(case, &numbers);
     }
     if case.call == Call::CompareReason {
         return format!("{}/{}", numbers[0], numbers[1]);
@@ -151,6 +162,7 @@ const EXPECTED: &[(&str, &str, &str)] = &[
     ("waits", "walk", "written untouched"),
     ("writes", "write_script", "accepted 1 2 3 5 10 11 12 17"),
     ("reaches", "reach", "action none words 1 2"),
+    ("tries", "run", "old new none"),
 ];
 
 #[test]

@@ -14,7 +14,8 @@ use model::write_script::script_bytes;
 fn declines(call: Call) -> &'static [u32] {
     match call {
         Call::Compare | Call::CompareReason => &[],
-        Call::Possible | Call::Protected | Call::ValidBySum | Call::Walk => &[],
+        Call::Possible | Call::Protected | Call::ValidBySum => &[],
+        Call::Walk | Call::Run => &[],
         Call::Store => &[1, 3, 4, 5],
         Call::RegisterRead => &[1, 3, 4],
         Call::FlashRead => &[1, 2, 3, 8],
@@ -88,8 +89,16 @@ fn images_class(case: &Case) -> &'static str {
     }
 }
 
+/// The bank that runs before tries, and after them.
+fn tries_class(case: &Case) -> String {
+    let answer = case.answer().unwrap();
+    let (_, after) = answer.rsplit_once(' ').unwrap();
+    format!("of {:?} that end with {after}", case.device.running_bank())
+}
+
 /// Sheets of every Q, under all four mappings, of idle and running devices; plans of few and many windows; scripts for both old
-/// banks into buffers of their length and longer; images that are equal, one word apart, outside and in the sequence quad, and several.
+/// banks into buffers of their length and longer; images that are equal, one word apart, outside and in the sequence quad, and several;
+/// tries of both old banks that end with the old and with the new.
 #[test]
 fn requests_vary() {
     let mut seen = BTreeSet::new();
@@ -110,13 +119,16 @@ fn requests_vary() {
             Call::Reach if accepted => {
                 seen.insert(format!("images {}", images_class(&case)));
             }
+            Call::Run if accepted => {
+                seen.insert(format!("tries {}", tries_class(&case)));
+            }
             Call::Plan => {
                 seen.insert(format!("windows {}", case.numbers[2].min(15)));
             }
             _ => {}
         }
     }
-    assert_eq!(seen.len(), 8 + 4 + 2 + 16 + 4 + 4, "{seen:?}");
+    assert_eq!(seen.len(), 8 + 4 + 2 + 16 + 4 + 4 + 4, "{seen:?}");
 }
 
 /// Running devices that were and were not loaded since their launch; impossible ones by what was launched alone.
@@ -212,8 +224,8 @@ fn every_decline_occurs() {
             .or_default()
             .insert(first_number(&answer));
     }
-    // A walk has no answer of its own.
-    let answered = SHAPES.iter().filter(|shape| shape.call != Call::Walk);
+    // A list of calls has no answer of its own.
+    let answered = SHAPES.iter().filter(|shape| shape.call.moves().is_none());
     for shape in answered {
         let numbers = &seen[shape.name];
         let mut expected: BTreeSet<u32> = declines(shape.call).iter().copied().collect();

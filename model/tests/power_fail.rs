@@ -1,6 +1,6 @@
 //! Power-fail safety: an update cut after any number of turns, with flash reads between them, and inside a read that waits.
 
-use model::device::{Device, BFSWAP, NVMCON, PFSWAP};
+use model::device::Device;
 use model::flash::{flash_read, reset, step};
 use model::generate::{accepted_start, random_image};
 use model::geometry::{Bank, Banks, Geometry, Kind, Side, ALL_ONES};
@@ -46,7 +46,7 @@ impl Sign {
             place: 0,
         };
         restart(numbers, &mut state, 0, [0; 4]);
-        assert_eq!(running_bank(&state.device), Some(old));
+        assert_eq!(state.device.running_bank(), Some(old));
         let image = random_image(&geometry, 7);
         Sign::from_start(&geometry, state.device, state.banks, image)
     }
@@ -57,7 +57,7 @@ impl Sign {
         banks: [Vec<u32>; 2],
         image: Vec<u32>,
     ) -> Sign {
-        let old = running_bank(&device).expect("both swaps agree");
+        let old = device.running_bank().expect("both swaps agree");
         let index = geometry.sequence_index();
         let low = low_half(words(&banks, old)[index]);
         let mut new = image.clone();
@@ -113,7 +113,7 @@ impl Sign {
         let after = turn(self.numbers, device, &mut banks, &self.image, &[], total).unwrap();
         assert!(after.done && after.device == device && after.place == total && !after.event);
         restart(self.numbers, state, 0, [0; 4]);
-        assert_eq!(running_bank(&state.device), Some(self.old.other()));
+        assert_eq!(state.device.running_bank(), Some(self.old.other()));
         self.check_new(state);
     }
 
@@ -164,7 +164,7 @@ impl Sign {
         let mut state = reached.clone();
         restart(self.numbers, &mut state, kind, mask);
         assert_eq!(words(&state.banks, self.old), words(&self.banks, self.old));
-        let runs = running_bank(&state.device).expect("both swaps agree");
+        let runs = state.device.running_bank().expect("both swaps agree");
         if runs == self.old {
             self.finish(&mut state);
             return false;
@@ -179,15 +179,6 @@ fn restart(numbers: [u32; 3], state: &mut State, kind: u32, mask: [u32; 4]) {
     let mut banks = Banks { one, two };
     let restart = reset(numbers, state.device, &mut banks, &[], kind, mask).unwrap();
     state.device = start_up(numbers, restart.device).unwrap();
-}
-
-/// The bank that BFSWAP and PFSWAP both put lower.
-fn running_bank(device: &Device) -> Option<Bank> {
-    match device.registers[NVMCON] & (BFSWAP | PFSWAP) {
-        0 => Some(Bank::One),
-        swaps if swaps == BFSWAP | PFSWAP => Some(Bank::Two),
-        _ => None,
-    }
 }
 
 fn masks(random: &mut Random) -> Vec<[u32; 4]> {
@@ -264,7 +255,7 @@ fn cuts_of_an_update_that_follows_a_cut() {
         let mut state = sign.start();
         sign.run(&mut state, first);
         restart(sign.numbers, &mut state, random.below(3), random.mask());
-        if running_bank(&state.device) != Some(sign.old) {
+        if state.device.running_bank() != Some(sign.old) {
             continue;
         }
         sign.accepts(&mut state);

@@ -24,6 +24,7 @@ pub enum Call {
     CompareReason,
     WriteScript,
     Reach,
+    Run,
 }
 
 /// The inputs of a call, in the order in which a line gives them.
@@ -45,8 +46,8 @@ pub enum Rest {
     Nothing,
     /// A count and that many pairs.
     Pairs,
-    /// A count and that many moves of a walk, each with its numbers.
-    Moves,
+    /// A count and that many moves; how many numbers a move of each kind has.
+    Moves(&'static [usize]),
 }
 
 const fn shape(
@@ -70,7 +71,7 @@ const fn shape(
 }
 
 /// The calls of the base stand first, those of later requests follow.
-pub const SHAPES: [Shape; 22] = [
+pub const SHAPES: [Shape; 23] = [
     shape(Call::Compare, "compare", false, false, 0, 2),
     shape(Call::Possible, "possible", true, true, 0, 0),
     shape(Call::Protected, "protected", true, true, 0, 3),
@@ -102,7 +103,7 @@ pub const SHAPES: [Shape; 22] = [
     },
     shape(Call::ValidBySum, "valid_by_sum", false, false, 0, 1),
     Shape {
-        rest: Rest::Moves,
+        rest: Rest::Moves(&WALK_MOVES),
         ..shape(Call::Walk, "walk", true, true, 3, 0)
     },
     shape(Call::CompareReason, "compare_reason", false, false, 0, 2),
@@ -111,7 +112,17 @@ pub const SHAPES: [Shape; 22] = [
         ..shape(Call::WriteScript, "write_script", true, true, 4, 0)
     },
     shape(Call::Reach, "reach", true, false, 2, 0),
+    Shape {
+        rest: Rest::Moves(&RUN_MOVES),
+        ..shape(Call::Run, "run", true, true, 3, 0)
+    },
 ];
+
+/// The moves of a walk: store, register read, step, reset, start-up, flash read.
+const WALK_MOVES: [usize; 6] = [3, 1, 0, 5, 0, 1];
+
+/// The moves of a run: turn, flash read, step, reset, start-up, the first stores of one, update start, turns.
+const RUN_MOVES: [usize; 8] = [1, 1, 0, 5, 0, 1, 0, 2];
 
 /// How many calls the base has.
 pub const BASE: usize = 13;
@@ -119,6 +130,14 @@ pub const BASE: usize = 13;
 impl Call {
     pub fn shape(self) -> &'static Shape {
         &SHAPES[self as usize]
+    }
+
+    /// How many numbers a move of each kind has, where the call is a list of calls. Such a list has no answer of its own.
+    pub fn moves(self) -> Option<&'static [usize]> {
+        match self.shape().rest {
+            Rest::Moves(counts) => Some(counts),
+            _ => None,
+        }
     }
 
     /// Whether it is a call of the base.

@@ -6,35 +6,6 @@ use crate::geometry::Banks;
 use crate::store::{register_read, start_up, store};
 use crate::Answer;
 
-/// How many numbers a move of each kind has: store, register read, step, reset, start-up, flash read.
-const ARGUMENTS: [usize; 6] = [3, 1, 0, 5, 0, 1];
-
-/// A count, then that many moves, each its kind and its numbers.
-pub fn take_moves(numbers: &mut impl Iterator<Item = u32>) -> Option<Vec<u32>> {
-    let count = numbers.next()?;
-    let mut taken = vec![count];
-    for _ in 0..count {
-        let kind = numbers.next()?;
-        taken.push(kind);
-        for _ in 0..*ARGUMENTS.get(kind as usize)? {
-            taken.push(numbers.next()?);
-        }
-    }
-    Some(taken)
-}
-
-/// Kind and numbers of each move.
-fn moves(numbers: &[u32]) -> Vec<(u32, &[u32])> {
-    let mut rest = &numbers[1..];
-    let mut moves = Vec::new();
-    while let Some((kind, after)) = rest.split_first() {
-        let (arguments, next) = after.split_at(ARGUMENTS[*kind as usize]);
-        moves.push((*kind, arguments));
-        rest = next;
-    }
-    moves
-}
-
 impl Case {
     /// "n times (ans value event), then D C".
     pub(super) fn answer_walk(&self) -> Vec<u32> {
@@ -43,7 +14,7 @@ impl Case {
         let mut banks = before.clone();
         let sram = self.lists[2].words();
         let mut outputs = Vec::new();
-        for (kind, numbers) in moves(&self.numbers) {
+        for (kind, numbers) in self.moves() {
             match walked.make_move(kind, numbers, &mut banks, &sram) {
                 Ok((value, event)) => outputs.extend([0, value, u32::from(event)]),
                 Err(refusal) => outputs.extend([refusal.number(), 0, 0]),

@@ -15,7 +15,9 @@ use super::memory;
 use super::places::{self, Start};
 use super::plans::plan_case;
 use super::reaches::images;
+
 use super::sheets::page_sheet_case;
+use super::tries::run_case;
 use super::walks::walk_case;
 use super::write_scripts::put_script_buffer;
 use super::MOST_WORDS;
@@ -73,6 +75,7 @@ fn fill_case(random: &mut Random, geometry: &Geometry, case: &mut Case) {
             let images = images(random, geometry);
             put_banks(random, case, images);
         }
+        Call::Run => run_case(random, geometry, case),
         Call::ValidBySum => case.numbers = vec![memory::sequence_word(random)],
     }
 }
@@ -164,7 +167,7 @@ fn bank_lists(random: &mut Random, geometry: &Geometry, case: &mut Case) {
     put_banks(random, case, banks);
 }
 
-fn put_image(random: &mut Random, case: &mut Case, mut image: Vec<u32>) {
+pub fn put_image(random: &mut Random, case: &mut Case, mut image: Vec<u32>) {
     if random.one_in(2 * SPOILED) {
         memory::refused_length(random, &mut image);
     }
@@ -282,7 +285,7 @@ fn update_start_case(random: &mut Random, geometry: &Geometry, case: &mut Case) 
 }
 
 /// Breaks one condition of an accepted start.
-fn spoil_start(random: &mut Random, geometry: &Geometry, start: &mut Start) {
+pub fn spoil_start(random: &mut Random, geometry: &Geometry, start: &mut Start) {
     let index = geometry.sequence_index();
     let own = start.device.lower_alias_bank().number() as usize - 1;
     let low = start.banks[own][index] as u16;

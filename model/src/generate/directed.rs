@@ -25,6 +25,7 @@ mod steps;
 mod sums;
 mod swaps;
 mod tears;
+mod tries;
 mod updates;
 mod waits;
 mod writes;
@@ -68,7 +69,7 @@ pub const SUBJECTS: [Subject; 16] = [
 ];
 
 /// Subjects of the calls that later requests added.
-pub const REQUEST_SUBJECTS: [Subject; 10] = [
+pub const REQUEST_SUBJECTS: [Subject; 11] = [
     subject("plans", plans::cases),
     subject("sheets", sheets::cases),
     subject("lanes", lanes::cases),
@@ -79,6 +80,7 @@ pub const REQUEST_SUBJECTS: [Subject; 10] = [
     subject("waits", waits::cases),
     subject("writes", writes::cases),
     subject("reaches", reaches::cases),
+    subject("tries", tries::cases),
 ];
 
 /// The cases of the base's subjects.

@@ -11,7 +11,7 @@ use super::devices::idle;
 use super::memory::{banks, image};
 
 /// Turns run at most to reach a state.
-const MOST_TURNS: u32 = 20_000;
+pub const MOST_TURNS: u32 = 20_000;
 
 /// A place at or near the edges of the list's blocks.
 pub fn place(random: &mut Random, geometry: &Geometry) -> u32 {
@@ -29,6 +29,17 @@ pub fn place(random: &mut Random, geometry: &Geometry) -> u32 {
         6 => total,
         7 => random.pick(&[total + 1, total + 13, 0x8000_0000, 0xFFFF_FFFF]),
         _ => random.below(total),
+    }
+}
+
+/// A place whose action is a step: of a page that is erased, of a quad, or of the sequence quad, the last.
+pub fn step_place(random: &mut Random, geometry: &Geometry) -> u32 {
+    let (program, last) = (program_place(geometry), total(geometry) - 2);
+    let page = random.below(geometry.pages());
+    match random.below(3) {
+        0 => last,
+        1 => last - 13 * random.below((last - program) / 13 + 1),
+        _ => 12 + page * erase_actions(geometry) + 7 + random.below(geometry.page_quads()),
     }
 }
 

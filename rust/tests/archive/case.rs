@@ -13,7 +13,7 @@ use crate::inputs::Inputs;
 use crate::rules::{self, possible, protected};
 
 /// What no call of the archive gives: the tests of the program `cases` compare it.
-const NO_CALLS: &[&str] = &["valid_by_sum", "walk"];
+const NO_CALLS: &[&str] = &["valid_by_sum", "walk", "run"];
 
 /// Whether a line is of a call that is compared here.
 pub fn is_call(left: &str) -> bool {

@@ -60,6 +60,8 @@ fn long_lists() {
         String::from("lanes_out 4000000 0 1 3 9 4000000 0 1 3999999 1"),
         String::from("lanes_back 4000000 0 2 3 9 3999999 1 4000000 1 0"),
         String::from("lanes_out 4000004 0 0 4000000 0 0"),
+        format!("run 1 1 1 {device} 64 0 1 28 4294836225 64 1 0 64 2 0 2 6 7 1000000 3"),
+        format!("run 1 1 1 {device} 1000000 0 1 28 4294836225 64 1 0 4000000 2 0 2 6 4"),
         String::from("reach 128 5 128 544768 0 0 544768 0 1 544767 1"),
         String::from("reach 128 5 128 544769 0 0 4000000 0 1 3999999 1"),
     ];

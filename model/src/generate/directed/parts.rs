@@ -8,6 +8,7 @@ use crate::list::List;
 use crate::plan::Window;
 use crate::sequence::word_of;
 use crate::store::SET;
+use crate::tries::Move;
 
 /// Q=B=P=1.
 pub const SMALL: Geometry = Geometry {
@@ -347,6 +348,19 @@ pub fn write_script(
 pub fn reach(geometry: &Geometry, images: &Pair) -> Case {
     let mut case = case(Call::Reach, geometry, Device::reset_values());
     lists(&mut case, images);
+    case
+}
+
+pub fn run(
+    geometry: &Geometry,
+    device: Device,
+    banks: &Pair,
+    image: &[u32],
+    moves: &[Move],
+) -> Case {
+    let mut case = update_start(geometry, device, banks, image);
+    case.call = Call::Run;
+    case.numbers = Move::list(moves);
     case
 }
 

@@ -6,6 +6,7 @@ mod lanes;
 mod plan;
 mod reach;
 mod rules;
+mod run;
 mod script;
 mod sheet;
 mod updates;
@@ -66,6 +67,7 @@ const CALLS: &[(&str, Call)] = &[
     ("reach", reach::reach),
     // Lists of calls.
     ("walk", walk::walk),
+    ("run", run::run),
 ];
 
 /// What stands right of the bar.

@@ -136,7 +136,7 @@ impl<'a> Inputs<'a> {
 }
 
 /// A list that memory does not hold is no case.
-fn filled<T: Copy>(length: usize, fill: T) -> Result<Vec<T>, NoCase> {
+pub fn filled<T: Copy>(length: usize, fill: T) -> Result<Vec<T>, NoCase> {
     let mut list = Vec::new();
     list.try_reserve_exact(length).or(Err(NoCase))?;
     list.resize(length, fill);

@@ -4,6 +4,7 @@ use crate::cases::Case;
 use crate::device::*;
 use crate::geometry::{Banks, Geometry, ALL_ONES};
 use crate::sequence::word_of;
+use crate::tries::Move;
 use crate::update;
 
 use super::super::parts::*;
@@ -91,6 +92,12 @@ impl Sign {
     pub fn write(&self, buffer: &[u8]) -> Case {
         let (geometry, device) = (&self.geometry, self.device);
         write_script(geometry, device, &self.banks, &self.image, buffer)
+    }
+
+    /// Moves from place 0 on.
+    pub fn tries(&self, moves: &[Move]) -> Case {
+        let (geometry, device) = (&self.geometry, self.device);
+        run(geometry, device, &self.banks, &self.image, moves)
     }
 
     pub fn turn(&self, place: u32) -> Case {
