@@ -19,5 +19,7 @@ mod requests;
 mod rules;
 mod scripts;
 mod settings;
+mod sign;
+mod tries;
 mod updates;
 mod written;

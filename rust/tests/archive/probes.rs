@@ -10,7 +10,7 @@ use model::store::{start_up, store, KEYS, PLAIN};
 use yohrundel::register::NVMCON;
 use yohrundel::Decline;
 
-use crate::updates::Sign;
+use crate::sign::Sign;
 
 /// Reads before every turn at key step 0 or 1; the whole update then is the model's without them.
 #[test]
@@ -78,7 +78,9 @@ fn updated(sign: &mut Sign, read_before: u32, key_step: u32) -> Result<u32, (u32
             assert_eq!(sign.device.keystep, key_step);
             sign.read(NVMCON);
         }
-        place = sign.try_turn(place).map_err(|decline| (place, decline))?;
+        place = sign
+            .try_turn(&[], place)
+            .map_err(|decline| (place, decline))?;
     }
     Ok(total)
 }
@@ -124,7 +126,7 @@ fn a_read_before_a_launch_loses_it() {
         let mut sign = half_protected();
         let stopped = updated(&mut sign, read_before, key_step);
         assert_eq!(stopped, Err((launch + 1, Decline::Idle)));
-        assert_eq!(sign.try_turn(launch + 1), Err(Decline::Idle));
+        assert_eq!(sign.try_turn(&[], launch + 1), Err(Decline::Idle));
         let runs = sign.restart(&[], 0, [0; 4]);
         assert!(!sign.runs_new(runs));
         ends_in_the_new_bank(&mut sign);
@@ -144,7 +146,7 @@ fn a_read_before_place_5_or_6_keeps_errors() {
         let mut sign = half_protected();
         while !sign.device.operation_runs() {
             let place = sign.turns as u32;
-            sign.try_turn(place).expect("a turn");
+            sign.try_turn(&[], place).expect("a turn");
         }
         sign.restart(&[], 1, [0; 4]);
         let stopped = updated(&mut sign, read_before, key_step);
@@ -161,7 +163,7 @@ fn without_the_read_the_new_bank_is_whole() {
 fn ends_in_the_new_bank(sign: &mut Sign) {
     let (total, mut place) = (sign.start(), 0);
     while place < total {
-        place = sign.try_turn(place).expect("a turn");
+        place = sign.try_turn(&[], place).expect("a turn");
     }
     let runs = sign.restart(&[], 0, [0; 4]);
     assert!(sign.runs_new(runs));

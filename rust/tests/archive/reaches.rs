@@ -8,7 +8,7 @@ use yohrundel::*;
 
 use crate::reads::address;
 use crate::settings::{cases, seed, Report, Within};
-use crate::updates::Sign;
+use crate::sign::Sign;
 use crate::written::written;
 
 const SIGNS: [[u32; 3]; 6] = [
@@ -106,8 +106,8 @@ impl Updates {
     /// One turn of both, without SRAM; the places are equal.
     fn turn(&mut self, place: u32) -> Result<u32, Decline> {
         let [first, other] = &mut self.signs;
-        let turned = first.try_turn(place);
-        assert_eq!(other.try_turn(place), turned);
+        let turned = first.try_turn(&[], place);
+        assert_eq!(other.try_turn(&[], place), turned);
         self.differ(&format!("place {place}"));
         turned
     }

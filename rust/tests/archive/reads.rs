@@ -6,7 +6,7 @@ use model::random::Random;
 use yohrundel::Decline;
 
 use crate::settings::{cases, seed, Report, Within};
-use crate::updates::Sign;
+use crate::sign::Sign;
 
 const SIGNS: [[u32; 3]; 5] = [[1, 1, 1], [1, 2, 1], [2, 1, 1], [1, 1, 3], [4, 2, 2]];
 
@@ -44,7 +44,7 @@ fn turns_and_reads(
             assert_eq!(sign.device, before);
             counts.reads += 1;
         }
-        place = sign.try_turn(place).expect("a turn");
+        place = sign.try_turn(&[], place).expect("a turn");
     }
     place
 }
@@ -65,7 +65,7 @@ fn read_the_new_bank(
         counts.waits += 1;
         assert!(!sign.device.operation_runs());
         for _ in 0..2 {
-            assert_eq!(sign.try_turn(place), Err(Decline::Idle));
+            assert_eq!(sign.try_turn(&[], place), Err(Decline::Idle));
             counts.declined += 1;
         }
     }
@@ -79,14 +79,14 @@ fn list(numbers: [u32; 3], random: &mut Random, counts: &mut Counts) {
     let last = random.below(total + 1);
     let mut place = turns_and_reads(&mut sign, &geometry, random, last, counts);
     while place < total && !sign.device.operation_runs() {
-        place = sign.try_turn(place).expect("a turn");
+        place = sign.try_turn(&[], place).expect("a turn");
     }
     if random.one_in(2) {
         read_the_new_bank(&mut sign, &geometry, random, place, counts);
     } else {
         for _ in 0..random.below(9) {
             if sign.device.operation_runs() {
-                sign.step(&[]);
+                sign.try_step(&[]).expect("a step");
                 counts.inside += 1;
             }
         }

@@ -7,7 +7,8 @@ use model::write_script as outside;
 use yohrundel::*;
 
 use crate::settings::{cases, seed, Report, Within};
-use crate::updates::{Sign, LARGEST};
+use crate::sign::Sign;
+use crate::updates::LARGEST;
 
 /// Signs whose updates have few actions.
 const SIGNS: [[u32; 3]; 5] = [[1, 1, 1], [1, 2, 1], [1, 1, 2], [2, 1, 1], [1, 3, 2]];
