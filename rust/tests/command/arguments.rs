@@ -184,6 +184,30 @@ fn arguments_of_a_cut_that_are_not_understood() {
     }
 }
 
+#[test]
+fn arguments_of_further_cuts_that_are_not_understood() {
+    for front in ["cut 1 1 1 0 0", "cut 1 1 1 0 0 --then 1 1"] {
+        wrong(&format!("{front} --then"), "PLACE is missing");
+        wrong(&format!("{front} --then 0"), "KIND is missing");
+        wrong(
+            &format!("{front} --then 0 0 0 0"),
+            "\"0\" is one argument too many",
+        );
+        let reason = "the value of --read is missing";
+        wrong(&format!("{front} --read --then 0 0"), reason);
+        let missing = "the value of --cut-start-up is missing";
+        wrong(&format!("{front} --cut-start-up"), missing);
+        wrong(&format!("{front} --cut-start-up --then 0 0"), missing);
+        for stores in ["", "x", "-1", "4294967296"] {
+            let number = "not a number from 0 to 4294967295";
+            let reason = format!("the value of --cut-start-up is {stores:?}, {number}");
+            wrong(&format!("{front} --cut-start-up {stores}"), &reason);
+        }
+    }
+    wrong("cut --then 1 1 1 0 0", "Q is missing");
+    wrong("cut 1 1 1 --then 0 0", "PLACE is missing");
+}
+
 /// Arguments that are declined, with the status 1.
 fn declined(arguments: &str, reason: &str) {
     let arguments: Vec<&str> = arguments.split(' ').collect();
@@ -208,6 +232,10 @@ fn declined_arguments() {
     let reason = "13: the place exceeds the total: PLACE is 253, the total 252";
     declined("cut 1 1 1 253 0", reason);
     declined("cut 1 1 1 253 0 --read 1D000001", reason);
+    declined("cut 1 1 1 0 0 --then 253 0", reason);
+    declined("cut 1 1 1 0 0 --then 252 0 --then 253 0", reason);
+    let reason = "8: there is no such address or page: ADDRESS is 0x00000000";
+    declined("cut 1 1 1 0 0 --then 1 1 --read 0", reason);
     for address in ["1D000001", "1cfffffc", "0x1D000100", "0", "FFFFFFFF"] {
         let number = address.trim_start_matches("0x").to_uppercase();
         let reason = "8: there is no such address or page: ADDRESS is 0x";

@@ -15,4 +15,5 @@ mod scripts;
 mod sheet;
 mod terminal;
 mod texts;
+mod tries;
 mod updates;

@@ -5,7 +5,7 @@ use model::flash::{flash_read, reset};
 use model::geometry::{Bank, Banks, Geometry, Kind, Side};
 use model::script::{play_records, Record};
 use model::sequence::{new_quad, Reason};
-use model::store::start_up;
+use model::store::{cut_start_up, start_up, start_up_stores};
 use model::update::{turn, update_start};
 use model::write_script::{script_bytes, write_script};
 use model::Answer;
@@ -45,7 +45,7 @@ impl Sign {
         let blank = vec![!0; old.len()];
         let mut sign = Sign::started(numbers, [old, blank], image);
         sign.new = with_sequence(&geometry, sign.image.clone(), 2);
-        assert_eq!(sign.runs(), Some(Bank::One));
+        assert_eq!(sign.device.running_bank(), Some(Bank::One));
         sign
     }
 
@@ -104,6 +104,11 @@ impl Sign {
 
     /// A reset and a start-up; the bank that runs.
     pub fn restart(&mut self, kind: u32, mask: [u32; 4]) -> Bank {
+        self.reset(kind, mask);
+        self.start_up()
+    }
+
+    pub fn reset(&mut self, kind: u32, mask: [u32; 4]) {
         let [one, two] = &mut self.banks;
         let mut banks = Banks { one, two };
         let restart = reset(self.numbers, self.device, &mut banks, &[], kind, mask);
@@ -114,15 +119,21 @@ impl Sign {
             Reason::OnlyOneValid => "the other bank has no valid sequence word",
             Reason::NoneValid => "no bank has a valid sequence word",
         };
-        self.device = start_up(self.numbers, restart.device).expect("a start-up");
-        self.runs().expect("a bank that runs")
+        self.device = restart.device;
     }
 
-    /// "the bank that BFSWAP and PFSWAP both put lower"
-    fn runs(&self) -> Option<Bank> {
-        let boot = self.device.bank_at(Kind::Boot, Side::Lower);
-        let program = self.device.bank_at(Kind::Program, Side::Lower);
-        (boot == program).then_some(boot)
+    /// A completed start-up; the bank that runs.
+    pub fn start_up(&mut self) -> Bank {
+        self.device = start_up(self.numbers, self.device).expect("a start-up");
+        self.device.running_bank().expect("a bank that runs")
+    }
+
+    /// The first stores of a start-up; how many are done, and how many it has.
+    pub fn cut_start_up(&mut self, count: u32) -> (u32, u32) {
+        let all = start_up_stores(&self.device).len() as u32;
+        let device = cut_start_up(self.numbers, self.device, count);
+        self.device = device.expect("a start-up");
+        (count.min(all), all)
     }
 
     /// The total, where the update is accepted.
@@ -163,7 +174,8 @@ impl Sign {
     pub fn picture(&self) -> String {
         let mut text = String::from("        boot  program\n");
         for bank in [Bank::One, Bank::Two] {
-            let runs = if self.runs() == Some(bank) { '*' } else { ' ' };
+            let runs = self.device.running_bank() == Some(bank);
+            let runs = if runs { '*' } else { ' ' };
             let mut label = format!("bank {}{runs} ", bank.number());
             // The program pages from the 65th on stand in a row of their own.
             for first in (0..self.geometry.program_pages).step_by(64) {

@@ -8,7 +8,7 @@ use crate::run::run;
 use crate::updates::{cut, geometry_text, mask_text, KINDS, MASKS};
 
 /// The first address of each window: boot pages and program pages, lower and upper.
-fn windows(sign: &Sign) -> [u32; 4] {
+pub fn windows(sign: &Sign) -> [u32; 4] {
     [
         (Kind::Boot, Side::Lower),
         (Kind::Boot, Side::Upper),
@@ -19,7 +19,7 @@ fn windows(sign: &Sign) -> [u32; 4] {
 }
 
 /// What is said of a read, and whether it waited.
-fn reading(sign: &mut Sign, place: u32, address: u32) -> (String, bool) {
+pub fn reading(sign: &mut Sign, place: u32, address: u32) -> (String, bool) {
     let (word, steps) = sign.read(address);
     let waits = match steps {
         None => String::from("does not wait"),

@@ -34,7 +34,7 @@ fn whole(sign: &mut Sign) -> String {
     )
 }
 
-fn ending(sign: &Sign) -> &'static str {
+pub fn ending(sign: &Sign) -> &'static str {
     assert_eq!(sign.banks, [sign.old.clone(), sign.new.clone()]);
     "Bank 1 kept every word.\nBank 2 is the image with the new sequence quad\n\
      FFFD0002 FFFFFFFF FFFFFFFF FFFFFFFF.\n"
@@ -86,22 +86,59 @@ fn change(before: &Sign, after: &Sign) -> String {
 
 /// What a cut of a sign prints, and the bank that runs then. Where it is cut is said by the front of a sentence.
 pub fn cut(mut sign: Sign, front: &str, kind: u32, mask: [u32; 4]) -> (String, Bank) {
-    let operation = if sign.device.running() { "an" } else { "no" };
-    let (total, at_cut, before) = (total(&sign.geometry), sign.picture(), sign.clone());
-    let runs = sign.restart(kind, mask);
-    let (change, name) = (change(&before, &sign), KINDS[kind as usize]);
-    let (number, why, after) = (runs.number(), sign.why, sign.picture());
-    let again = match runs {
-        Bank::One => format!("The same update is accepted again. {}", whole(&mut sign)),
+    let total = total(&sign.geometry);
+    let (failing, runs) = failing(&mut sign, front, kind, mask, &[]);
+    let end = match runs {
+        Bank::One => again(&mut sign),
         Bank::Two => format!("The update is complete.\n{}", ending(&sign)),
     };
+    let text = format!("The update has {total} actions.\n{failing}{end}\n{LEGEND}");
+    (text, runs)
+}
+
+/// The same update is accepted again, and not cut.
+pub fn again(sign: &mut Sign) -> String {
+    format!("The same update is accepted again. {}", whole(sign))
+}
+
+/// The supply fails, and again after some stores of each start-up; the bank that runs after the completed one.
+pub fn failing(
+    sign: &mut Sign,
+    front: &str,
+    kind: u32,
+    mask: [u32; 4],
+    start_ups: &[u32],
+) -> (String, Bank) {
+    let operation = if sign.device.running() { "an" } else { "no" };
+    let at_cut = sign.picture();
+    let mut resets = reset(sign, kind, mask);
+    for stores in start_ups {
+        resets += &cut_start_up(sign, *stores);
+        resets += &reset(sign, kind, mask);
+    }
+    let runs = sign.start_up();
+    let (number, why, after) = (runs.number(), sign.why, sign.picture());
     let text = format!(
-        "The update has {total} actions.\n\
-         {front} the supply fails while {operation} operation runs.\n\n{at_cut}\n\
-         The reset ({name}) {change}.\n\
-         After the reset and start-up bank {number} runs:\n{why}.\n\n{after}\n{again}\n{LEGEND}"
+        "{front} the supply fails while {operation} operation runs.\n\n{at_cut}\n{resets}\
+         After the reset and start-up bank {number} runs:\n{why}.\n\n{after}\n"
     );
     (text, runs)
+}
+
+fn reset(sign: &mut Sign, kind: u32, mask: [u32; 4]) -> String {
+    let before = sign.clone();
+    sign.reset(kind, mask);
+    let (change, name) = (change(&before, sign), KINDS[kind as usize]);
+    format!("The reset ({name}) {change}.\n")
+}
+
+fn cut_start_up(sign: &mut Sign, stores: u32) -> String {
+    let when = match sign.cut_start_up(stores) {
+        (0, _) => String::from("Before the start-up's first store"),
+        (1, 1) | (5, 5) => String::from("After the start-up's last store"),
+        (done, _) => format!("After {done} of the start-up's 5 stores"),
+    };
+    format!("{when} the supply fails again.\n")
 }
 
 pub fn mask_text(mask: [u32; 4]) -> String {

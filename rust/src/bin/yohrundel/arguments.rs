@@ -7,6 +7,7 @@ use yohrundel::Geometry;
 
 use crate::failure::Failure;
 
+#[derive(Default)]
 pub struct Arguments<'a> {
     rest: VecDeque<&'a OsStr>,
 }
@@ -15,6 +16,18 @@ impl<'a> Arguments<'a> {
     pub fn new(arguments: &'a [OsString]) -> Arguments<'a> {
         let rest = arguments.iter().map(OsString::as_os_str).collect();
         Arguments { rest }
+    }
+
+    /// The arguments before each that is a name, and those after the last of them.
+    pub fn parts(self, name: &str) -> Vec<Arguments<'a>> {
+        let mut parts = vec![Arguments::default()];
+        for argument in self.rest {
+            match parts.last_mut() {
+                Some(part) if argument != name => part.rest.push_back(argument),
+                _ => parts.push(Arguments::default()),
+            }
+        }
+        parts
     }
 
     /// The next argument, none at the end. One that begins with a hyphen is an option that there is not, but for `-` alone.
@@ -40,16 +53,29 @@ impl<'a> Arguments<'a> {
 
     /// What follows the name of an option, wherever both stand; none where the option is not given.
     pub fn value(&mut self, name: &str) -> Result<Option<&'a OsStr>, Failure> {
+        let value = self.next_value(name)?;
+        match self.place(name) {
+            Some(_) => Err(Failure::arguments(format!("{name} is given twice"))),
+            None => Ok(value),
+        }
+    }
+
+    /// What follows the name of an option that may be given several times.
+    pub fn values(&mut self, name: &str) -> Result<Vec<&'a OsStr>, Failure> {
+        let mut values = Vec::new();
+        while let Some(value) = self.next_value(name)? {
+            values.push(value);
+        }
+        Ok(values)
+    }
+
+    fn next_value(&mut self, name: &str) -> Result<Option<&'a OsStr>, Failure> {
         let Some(place) = self.place(name) else {
             return Ok(None);
         };
         self.rest.remove(place);
         let missing = || Failure::arguments(format!("the value of {name} is missing"));
-        let value = self.rest.remove(place).ok_or_else(missing)?;
-        match self.place(name) {
-            Some(_) => Err(Failure::arguments(format!("{name} is given twice"))),
-            None => Ok(Some(value)),
-        }
+        self.rest.remove(place).ok_or_else(missing).map(Some)
     }
 
     /// Whether an option without a value is given, wherever it stands.
@@ -78,9 +104,7 @@ impl<'a> Arguments<'a> {
     }
 
     pub fn number(&mut self, name: &str) -> Result<u32, Failure> {
-        self.form(name, "a number from 0 to 4294967295", |text| {
-            text.parse().ok()
-        })
+        self.form(name, DECIMAL_WORDS, decimal)
     }
 
     /// Q, B and P, which the library judges.
@@ -114,6 +138,13 @@ pub fn formed<T>(
 ) -> Result<T, Failure> {
     let wrong = || Failure::arguments(format!("{name} is {argument:?}, not {words}"));
     argument.to_str().and_then(read).ok_or_else(wrong)
+}
+
+/// What a decimal number may be.
+pub const DECIMAL_WORDS: &str = "a number from 0 to 4294967295";
+
+pub fn decimal(text: &str) -> Option<u32> {
+    text.parse().ok()
 }
 
 /// A word in one to eight hexadecimal digits, 0x before them or not.

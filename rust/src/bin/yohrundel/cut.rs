@@ -1,20 +1,20 @@
-//! `yohrundel cut`: an update whose supply fails.
+//! `yohrundel cut`: an update whose supply fails, once or again and again.
 
 use yohrundel::{Bank, Decline};
 
-use crate::arguments::{formed, hexadecimal, Arguments};
+use crate::arguments::Arguments;
 use crate::command::Command;
+use crate::cut_arguments::{take_cuts, Cut};
 use crate::failure::{declined, Answer, Failure};
 use crate::picture::{legend, picture};
 use crate::progress::Progress;
-use crate::resets::{take_kind, take_mask, Kind};
 use crate::sign::{made_up_image, Sign};
 use crate::torn::change;
 use crate::wording::{ending, runs, whole_update};
 
 pub const COMMAND: Command = Command {
     name: "cut",
-    arguments: "Q B P PLACE KIND [MASK] [OPTION]",
+    arguments: "Q B P PLACE KIND [MASK] [OPTION..]",
     summary: "runs an update whose supply fails",
     details: "\
 Q, B and P are the sign's sizes, and it begins, as for yohrundel update; the
@@ -24,66 +24,62 @@ KIND is the kind of the reset: 0 or power-on, 1 or brown-out, 2 or other.
 MASK chooses, where an operation runs, which bits of its next quad get through
 (1) and which stay as they were (0): a hexadecimal word for all four words, or
 four with commas between them. It is 0 where none is given.
-OPTION is --read ADDRESS: before the supply fails the CPU reads the word at that
-hexadecimal address. Boot pages are at 1FC00000, of the bank that runs, and at
-1FC20000, of the other; program pages are at 1D000000, of the bank that runs and
-then of the other. A read of the bank that an operation works on waits: it does
-the steps that are left, and the update's turns for them would be declined by 6.
+OPTION is any of
+  --read ADDRESS    before the supply fails the CPU reads the word at that
+                    hexadecimal address
+  --cut-start-up N  after the reset the supply fails again, when N stores of the
+                    start-up are done, or all where it has fewer; a reset of the
+                    same kind follows. It may be given several times.
+  --then PLACE KIND [MASK] [OPTION..]
+                    the update is begun again, and the supply fails again, with
+                    options of this cut alone. It may be given several times.
+                    Cuts are left out once the new bank runs.
+Boot pages are at 1FC00000, of the bank that runs, and at 1FC20000, of the
+other; program pages are at 1D000000, of the bank that runs and then of the
+other. A read of the bank that an operation works on waits: it does the steps
+that are left, and the update's turns for them would be declined by 6.
 It prints what the read gave, and for how many steps it waited; a picture of
 both banks at the cut, which bank runs after the reset and start-up and why,
 whether the same update is accepted again, and how that ends.",
     run,
 };
 
-/// How the supply fails.
-struct Cut {
-    place: u32,
-    kind: Kind,
-    mask: [u32; 4],
-    /// The address that the CPU reads just before.
-    read: Option<u32>,
-}
-
-fn run(mut arguments: Arguments) -> Answer {
+fn run(arguments: Arguments) -> Answer {
     let mut progress = Progress::new();
-    let read = take_read(&mut arguments)?;
-    let geometry = arguments.geometry()?;
-    let cut = Cut {
-        place: arguments.number("PLACE")?,
-        kind: take_kind(&mut arguments)?,
-        mask: take_mask(&mut arguments)?,
-        read,
-    };
-    arguments.end()?;
+    let (geometry, cuts) = take_cuts(arguments)?;
     let mut sign = Sign::fresh(geometry, made_up_image(geometry)?)?;
-    let (total, place) = (sign.start()?, cut.place);
-    if place > total {
+    let total = sign.start()?;
+    if let Some(Cut { place, .. }) = cuts.iter().find(|cut| cut.place > total) {
         let cause = format!("PLACE is {place}, the total {total}");
         return Err(Failure::declined(Decline::Place, cause));
     }
-    let before = until_cut(&mut sign, total, &cut, &mut progress)?;
-    let after = after_cut(&mut sign, &cut)?;
-    let again = again(&mut sign, &mut progress)?;
-    let legend = legend();
-    Ok(format!("{before}\n{after}\n{again}\n{legend}").into())
+    let (tries, left_out) = tries(&mut sign, &cuts, &mut progress)?;
+    let (again, legend) = (again(&mut sign, left_out, &mut progress)?, legend());
+    Ok(format!("The update has {total} actions.\n{tries}{again}\n{legend}").into())
 }
 
-/// The address of the option, where it is given.
-fn take_read(arguments: &mut Arguments) -> Result<Option<u32>, Failure> {
-    let Some(value) = arguments.value("--read")? else {
-        return Ok(None);
-    };
-    let (name, words) = ("the value of --read", "a hexadecimal address");
-    formed(value, name, words, hexadecimal).map(Some)
+/// The cuts one after another, while the same update is accepted again; and whether any is left out.
+fn tries(
+    sign: &mut Sign,
+    cuts: &[Cut],
+    progress: &mut Progress,
+) -> Result<(String, bool), Failure> {
+    let mut text = String::new();
+    for (number, cut) in cuts.iter().enumerate() {
+        if number > 0 {
+            if runs_new(sign) || sign.start().is_err() {
+                return Ok((text, true));
+            }
+            text += "The same update is accepted again.\n";
+        }
+        let (before, after) = (until_cut(sign, cut, progress)?, after_cut(sign, cut)?);
+        text += &format!("{before}\n{after}\n");
+    }
+    Ok((text, false))
 }
 
 /// The turns before the cut, and the read.
-fn until_cut(
-    sign: &mut Sign,
-    total: u32,
-    cut: &Cut,
-    progress: &mut Progress,
-) -> Result<String, Failure> {
+fn until_cut(sign: &mut Sign, cut: &Cut, progress: &mut Progress) -> Result<String, Failure> {
     sign.turn_until(cut.place, progress)?;
     let place = cut.place;
     let before = match cut.read {
@@ -97,8 +93,7 @@ fn until_cut(
     };
     let picture = picture(sign)?;
     Ok(format!(
-        "The update has {total} actions.\n\
-         {before} the supply fails while {operation} runs.\n\n{picture}"
+        "{before} the supply fails while {operation} runs.\n\n{picture}"
     ))
 }
 
@@ -116,22 +111,50 @@ fn reading(sign: &mut Sign, address: u32) -> Result<String, Failure> {
     ))
 }
 
-/// The reset and the start-up.
+/// The reset, the start-ups that are cut, with a reset after each, and the completed one.
 fn after_cut(sign: &mut Sign, cut: &Cut) -> Result<String, Decline> {
-    let before = sign.banks.clone();
-    sign.restart(cut.kind.number, cut.mask)?;
-    let (kind, change) = (cut.kind.name, change(sign, &before)?);
+    let mut text = reset(sign, cut)?;
+    for stores in &cut.start_ups {
+        text += &cut_start_up(sign, *stores)?;
+        text += &reset(sign, cut)?;
+    }
+    sign.start_up()?;
     let (runs, picture) = (runs(sign), picture(sign)?);
     Ok(format!(
-        "The reset ({kind}) {change}.\nAfter the reset and start-up {runs}.\n\n{picture}"
+        "{text}After the reset and start-up {runs}.\n\n{picture}"
     ))
 }
 
+fn reset(sign: &mut Sign, cut: &Cut) -> Result<String, Decline> {
+    let before = sign.banks.clone();
+    sign.reset(cut.kind.number, cut.mask)?;
+    let (kind, change) = (cut.kind.name, change(sign, &before)?);
+    Ok(format!("The reset ({kind}) {change}.\n"))
+}
+
+fn cut_start_up(sign: &mut Sign, stores: u32) -> Result<String, Decline> {
+    let when = match sign.cut_start_up(stores as usize)? {
+        (0, _) => String::from("Before the start-up's first store"),
+        (done, all) if done == all => String::from("After the start-up's last store"),
+        (done, all) => format!("After {done} of the start-up's {all} stores"),
+    };
+    Ok(format!("{when} the supply fails again.\n"))
+}
+
+fn runs_new(sign: &Sign) -> bool {
+    sign.device.running_bank() == Some(Bank::Two)
+}
+
 /// The same update once more, where the old bank runs.
-fn again(sign: &mut Sign, progress: &mut Progress) -> Result<String, Decline> {
-    if sign.device.running_bank() == Some(Bank::Two) {
+fn again(sign: &mut Sign, left_out: bool, progress: &mut Progress) -> Result<String, Decline> {
+    if runs_new(sign) {
+        let rest = if left_out {
+            "; the other cuts are left out"
+        } else {
+            ""
+        };
         let ending = ending(sign);
-        return Ok(format!("The update is complete.\n{ending}"));
+        return Ok(format!("The update is complete{rest}.\n{ending}"));
     }
     match sign.start() {
         Ok(total) => {

@@ -10,7 +10,7 @@ use crate::files;
 pub const COMMAND: Command = Command {
     name: "lanes",
     arguments: "out|back FILE",
-    summary: "stores an image in byte lanes, and back",
+    summary: "stores images in byte lanes, and back",
     details: "\
 FILE is an image of words, lowest byte first, of any length; - is standard
 input. Out writes all first bytes of its words to standard output, then all

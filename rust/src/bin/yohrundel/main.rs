@@ -3,6 +3,7 @@
 mod arguments;
 mod command;
 mod cut;
+mod cut_arguments;
 mod failure;
 mod files;
 mod lanes;

@@ -2,8 +2,9 @@
 
 use yohrundel::reset_kind::POWER_ON;
 use yohrundel::{
-    flash_read, lower_bank, play, play_length, reset, start_up, step, turn_lent, update_start,
-    write_script, Bank, Decline, Device, Geometry, Reason, TurnOutcome,
+    cut_start_up, flash_read, lower_bank, play, play_length, reset, start_up, start_up_stores,
+    step, turn_lent, update_start, write_script, Bank, Decline, Device, Geometry, Reason,
+    TurnOutcome,
 };
 
 use crate::progress::Progress;
@@ -86,11 +87,27 @@ impl Sign {
 
     /// A reset and a start-up.
     pub fn restart(&mut self, kind: u32, mask: [u32; 4]) -> Result<(), Decline> {
+        self.reset(kind, mask)?;
+        self.start_up()
+    }
+
+    pub fn reset(&mut self, kind: u32, mask: [u32; 4]) -> Result<(), Decline> {
         let [one, two] = &mut self.banks;
         let restarted = reset(self.geometry, self.device, one, two, &[], kind, mask)?;
-        self.reason = Some(restarted.reason);
-        self.device = start_up(self.geometry, restarted.device)?;
+        (self.device, self.reason) = (restarted.device, Some(restarted.reason));
         Ok(())
+    }
+
+    pub fn start_up(&mut self) -> Result<(), Decline> {
+        self.device = start_up(self.geometry, self.device)?;
+        Ok(())
+    }
+
+    /// The first stores of a start-up, all where it has fewer; gives how many are done, and how many it has.
+    pub fn cut_start_up(&mut self, stores: usize) -> Result<(usize, usize), Decline> {
+        let all = start_up_stores(&self.device).len();
+        self.device = cut_start_up(self.geometry, self.device, stores)?;
+        Ok((stores.min(all), all))
     }
 
     /// A flash read without SRAM; gives the word, and for how many steps the read waited, none where it did not.
