@@ -13,7 +13,7 @@ use Rattle.words.proofs.PickLaws.{and-both}
 use Rattle.planner.specs.declared.plan.Planned.{Planned}
 use Rattle.planner.specs.Windows.{week, Window, window, windowCountOf, windowAt, windowInRangeOf, windowsInRangeOf, inRangeOf}
 use Rattle.planner.specs.Planner.{fitsInOf, leastWaitOf, answerOf, planOf}
-use Rattle.planner.proofs.FirstLaws.{First, first-is}
+use Rattle.words.proofs.FirstLaws.{First, first-is}
 use Rattle.planner.proofs.WindowLaws.{offset, wait-whole, wait-none, wait-at-once, wait-next}
 use Rattle.planner.proofs.RangeLaws.{numbers-range, window-range, inside}
 use Rattle.planner.proofs.LeastLaws.{least-none, least-more}

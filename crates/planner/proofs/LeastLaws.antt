@@ -5,8 +5,9 @@ use mathlib.Core.List.{List}
 use Prim.Native.Nat.{ℕ, suc, _+_, min}
 use native.Mathlib.Numerals.{add-one}
 use Rattle.planner.specs.Windows.{week, windowAt}
-use Rattle.planner.specs.Planner.{firstFrom, fitsInOf, fitsOf, leastWaitOf}
-use Rattle.planner.proofs.FirstLaws.{first-below, first-is, first-never, first-either}
+use Rattle.words.specs.Word.{firstFrom}
+use Rattle.planner.specs.Planner.{fitsInOf, fitsOf, leastWaitOf}
+use Rattle.words.proofs.FirstLaws.{first-below, first-is, first-never, first-either}
 
 module _ (minute duration : ℕ) (lent : List ℕ) where
   pub least-none : week ≡ leastWaitOf minute duration lent 0

@@ -1,4 +1,3 @@
-pub mod FirstLaws
 pub mod WindowLaws
 pub mod RangeLaws
 pub mod LeastLaws

@@ -17,7 +17,7 @@ use Rattle.planner.specs.declared.plan.Planned.{Planned}
 use Rattle.planner.specs.Windows.{week, windowCountOf, windowsInRangeOf, numbersInRangeOf, inRangeOf}
 use Rattle.planner.specs.Planner.{fitsOf, leastWaitOf, planned, answerOf, planOf}
 use Rattle.planner.specs.PlanLaws.{InOneWindow, Plans}
-use Rattle.planner.proofs.FirstLaws.{first-below}
+use Rattle.words.proofs.FirstLaws.{first-below}
 use Rattle.planner.proofs.FitLaws.{fits-one, one-fits}
 use Rattle.planner.proofs.RangeLaws.{all-in, inside}
 

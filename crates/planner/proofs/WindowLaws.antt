@@ -12,7 +12,7 @@ use Rattle.words.specs.Word.{allBelow}
 use Rattle.words.proofs.PickLaws.{all-hold, not-all-below}
 use Rattle.planner.specs.Windows.{week, window, heldOf}
 use Rattle.planner.specs.Planner.{fitsInOf}
-use Rattle.planner.proofs.FirstLaws.{First}
+use Rattle.words.proofs.FirstLaws.{First}
 
 -- how many minutes a minute comes after a window's start
 abbrev pub offset : ℕ → ℕ → ℕ

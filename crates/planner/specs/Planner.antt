@@ -1,22 +1,12 @@
 -- The plan: the smallest wait after which all minutes lie in the same window. Assumes nothing.
-use Prim.Native.Nat.{ℕ, zero, suc, _+_, _%_}
-use mathlib.Core.Bool.{Bool, false, _||_}
+use Prim.Native.Nat.{ℕ, _+_, _%_}
+use mathlib.Core.Bool.{Bool}
 use mathlib.Core.List.{List}
 use lib.Dec.{ltb}
-use Rattle.words.specs.Word.{pick, allBelow}
+use Rattle.words.specs.Word.{pick, allBelow, anyBelow, firstFrom}
 use Rattle.words.specs.declared.decline.Decline.{Decline}
 use Rattle.planner.specs.declared.plan.Planned.{Planned}
 use Rattle.planner.specs.Windows.{week, Window, windowCountOf, windowAt, heldOf, inRangeOf}
-
--- p holds of a number below n
-abbrev pub anyBelow : (ℕ → Bool) → ℕ → Bool
-anyBelow p zero = false
-anyBelow p (suc n) = anyBelow p n || p n
-
--- the first of so many numbers from k on of which p holds; the number after them where it holds of none
-unfoldable pub firstFrom : (ℕ → Bool) → ℕ → ℕ → ℕ
-firstFrom p k zero = k
-firstFrom p k (suc more) = pick (p k) k (firstFrom p (suc k) more)
 
 -- after a wait, "all those minutes, counted modulo 10,080, lie in" a window
 unfoldable pub fitsInOf : ℕ → ℕ → Window → ℕ → Bool

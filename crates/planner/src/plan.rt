@@ -2,7 +2,8 @@
 ghost use mathlib.Core.Path.{_≡_};
 ghost use Prim.Native.Nat.{min, _<_, _≤_};
 ghost use Rattle.planner.specs.Windows.{window, week};
-ghost use Rattle.planner.specs.Planner.{firstFrom, fitsInOf, planned, planOf};
+ghost use Rattle.words.specs.Word.{firstFrom};
+ghost use Rattle.planner.specs.Planner.{fitsInOf, planned, planOf};
 use crate::windows::WEEK;
 use crate::windows::numbers_in_range;
 use crate::windows::window_in_range;

@@ -3,7 +3,7 @@ use borrow.Author.Needs.{needs}
 use mathlib.Core.Path.{_≡_}
 use native.Mathlib.Omega.{arith}
 use Rattle.planner.specs.Windows.{week}
-use Rattle.planner.proofs.FirstLaws.{first-is}
+use Rattle.words.proofs.FirstLaws.{first-is}
 use Rattle.planner.proofs.WindowLaws.{wait-whole, wait-none, wait-at-once, wait-next}
 use Rattle.planner.proofs.plan.window_wait.Statement.{statement}
 use Rattle.planner.proofs.plan.window_wait.Tie as tie

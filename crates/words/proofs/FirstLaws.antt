@@ -1,13 +1,35 @@
--- The first number below n of which a test holds: there is only one, and of two tests it is the smaller of both.
+-- A number below n of which a test holds, and the first: there is only one, and of two tests it is the smaller of both.
 -- Assumes nothing.
 use mathlib.Core.Path.{_≡_, refl, sym, _∙_}
 use mathlib.Core.Bool.{Bool, true, false, _||_, or-true}
 use Prim.Native.Nat.{ℕ, zero, suc, _+_, _≤_, _<_, min}
 use native.Mathlib.Decide.{decLe, decLt}
 use native.Mathlib.Omega.{arith}
-use Rattle.words.specs.Word.{pick}
+use Rattle.words.specs.Word.{pick, anyBelow, firstFrom}
 use Rattle.words.proofs.BitLaws.{true-not-false}
-use Rattle.planner.specs.Planner.{firstFrom}
+
+-- a number below n of which p holds
+pub record Some (p : ℕ → Bool) (n : ℕ) : Type 0 where
+  pub number : ℕ
+  pub below : number < n
+  pub holds : p number ≡ true
+
+pub any-some : (p : ℕ → Bool) (n : ℕ) → anyBelow p n ≡ true → Some p n
+any-some p zero h = absurd (true-not-false (sym h))
+any-some p (suc n) h = go (anyBelow p n) refl (any-some p n)
+  where
+    go : (t : Bool) → anyBelow p n ≡ t → (anyBelow p n ≡ true → Some p n) → Some p (suc n)
+    go true e earlier = let s = earlier e in record { number = s .number; below = omega (arith, s .below); holds = s .holds }
+    go false e earlier = record { number = n; below = omega arith; holds = rw e at h }
+
+-- and where p holds of one, the test says so
+pub some-any : (p : ℕ → Bool) (n k : ℕ) → k < n → p k ≡ true → anyBelow p n ≡ true
+some-any p zero k l h = absurd (omega arith)
+some-any p (suc n) k l h = go (decLt k n) (some-any p n k)
+  where
+    go : Dec (k < n) → (k < n → p k ≡ true → anyBelow p n ≡ true) → anyBelow p (suc n) ≡ true
+    go (yes i) below = rw (below i h)
+    go (no i) below = let e : k ≡ n = omega arith in rw (rw e at h) (or-true (anyBelow p n))
 
 -- r is the first number below n of which p holds, or n where it holds of none
 pub record First (p : ℕ → Bool) (n r : ℕ) : Type 0 where
