@@ -1,11 +1,15 @@
 -- "Service script": records of 8 bytes, and decline 14. Assumes nothing.
-use Prim.Native.Nat.{ℕ, _+_, _*_, _/_, _%_}
+use Prim.Native.Nat.{ℕ, _+_, _*_, _/_, _%_, _<_}
 use mathlib.Core.Bool.{Bool, false, _&&_}
 use mathlib.Core.List.{List, [], _∷_, _++_}
 use lib.Dec.{eqb, leb}
 use lib.ListN.{length, getD}
 use Rattle.words.specs.Word.{pick, allBelow}
 use Rattle.script_format.specs.declared.Record.{Record}
+
+-- every element is a byte
+abbrev pub Bytes : List ℕ → Type 0
+Bytes script = (k : ℕ) → getD script k 0 < 256
 
 -- byte k of record i
 abbrev pub byteOf : List ℕ → ℕ → ℕ → ℕ

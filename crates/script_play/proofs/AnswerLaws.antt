@@ -17,11 +17,11 @@ use Rattle.common_declines.specs.CommonDecline.{commonDeclineOf}
 use Rattle.common_declines.proofs.CommonDeclineLaws.{ready}
 use Rattle.device.specs.State.{State}
 use Rattle.controller.specs.Controller.{Sound}
-use Rattle.script_format.specs.Records.{recordOf, isRecordOf, recordsOf, isScriptOf}
+use Rattle.script_format.specs.Records.{Bytes, recordOf, isRecordOf, recordsOf, isScriptOf}
 use Rattle.script_record.specs.Record.{recordAfterOf}
 use Rattle.script_record.proofs.AnswerLaws.{RecordAnswer, record-answer}
 use Rattle.script_play.specs.Play.{stateOf, playDeclineOf, declineOf}
-use Rattle.script_play.proofs.ControllerLaws.{Bytes, play-sound}
+use Rattle.script_play.proofs.ControllerLaws.{play-sound}
 
 -- a play that is accepted is declined neither by 1 to 3 nor for its script
 neither-declines : (g : Geometry) (sram : List ℕ) (s : State) (script : List ℕ) → acceptedOf (declineOf g sram s script) ≡ true

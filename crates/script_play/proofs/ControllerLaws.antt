@@ -6,24 +6,34 @@ use mathlib.Core.List.{List, [], _∷_, _++_}
 use Prim.Native.Nat.{ℕ, zero, suc, _+_, _*_, _^_, _<_}
 use native.Mathlib.Omega.{arith}
 use lib.Dec.{eqb}
-use lib.ListN.{getD}
 use Rattle.words.proofs.PickLaws.{pick-both}
 use Rattle.geometry.specs.declared.banks.Geometry.{Geometry}
 use Rattle.device.specs.State.{State}
-use Rattle.controller.specs.Controller.{Operation, transitionOf, runOf, BringsWord, BringWords, Sound}
+use Rattle.controller.specs.Controller.{Operation, answerOf, transitionOf, runOf, BringsWord, BringWords, Sound}
 use Rattle.controller.proofs.RunLaws.{run-append}
 use Rattle.controller.proofs.Controller.{controller}
 use Rattle.script_format.specs.declared.Record.{Record}
-use Rattle.script_format.specs.Records.{valueOf, recordOf}
+use Rattle.script_format.specs.Records.{Bytes, valueOf, recordOf}
 use Rattle.script_record.specs.Record.{recordAfterOf}
 use Rattle.script_play.specs.Play.{stateOf, operationOf, operationsOf}
 
-record-runs : (g : Geometry) (sram : List ℕ) (s : State) (r : Record) → recordAfterOf g sram s r .state ≡ transitionOf g s (operationOf sram r)
+pub record-runs : (g : Geometry) (sram : List ℕ) (s : State) (r : Record) → recordAfterOf g sram s r .state ≡ transitionOf g s (operationOf sram r)
 unfolding recordAfterOf
 record-runs g sram s r = go (eqb (r .kind) 0) refl (eqb (r .kind) 1) refl
   where
     go : (a : Bool) → eqb (r .kind) 0 ≡ a → (b : Bool) → eqb (r .kind) 1 ≡ b
         → recordAfterOf g sram s r .state ≡ transitionOf g s (operationOf sram r)
+    go true ea b eb = rw ea
+    go false ea true eb = rw (ea, eb)
+    go false ea false eb = rw (ea, eb)
+
+-- and its answer is that of the operation
+pub record-declines : (g : Geometry) (sram : List ℕ) (s : State) (r : Record) → recordAfterOf g sram s r .decline ≡ answerOf g s (operationOf sram r)
+unfolding recordAfterOf
+record-declines g sram s r = go (eqb (r .kind) 0) refl (eqb (r .kind) 1) refl
+  where
+    go : (a : Bool) → eqb (r .kind) 0 ≡ a → (b : Bool) → eqb (r .kind) 1 ≡ b
+        → recordAfterOf g sram s r .decline ≡ answerOf g s (operationOf sram r)
     go true ea b eb = rw ea
     go false ea true eb = rw (ea, eb)
     go false ea false eb = rw (ea, eb)
@@ -38,10 +48,6 @@ play-runs g sram s script (suc i) =
     ) (record-runs g sram (stateOf g sram s script i) (recordOf script i))
 
 -- ---- the play of a script of bytes brings words of 32 bits
-
--- every element is a byte
-abbrev pub Bytes : List ℕ → Type 0
-Bytes script = (k : ℕ) → getD script k 0 < 256
 
 value-word : (script : List ℕ) → Bytes script → (i : ℕ) → valueOf script i < 2 ^ 32
 unfolding valueOf

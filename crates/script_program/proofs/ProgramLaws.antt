@@ -25,12 +25,12 @@ use Rattle.common_declines.specs.CommonDecline.{commonDeclineOf}
 use Rattle.common_declines.proofs.CommonDeclineLaws.{opens}
 use Rattle.resets.specs.Reset.{comparedOf, resetConOf, resetDeviceOf}
 use Rattle.controller.proofs.Controller.{controller}
-use Rattle.script_format.specs.Records.{recordsOf, isScriptOf}
+use Rattle.script_format.specs.Records.{Bytes, recordsOf, isScriptOf}
 use Rattle.controller.specs.Controller.{Sound}
 use Rattle.script_play.specs.Play.{stateOf, linesOf, playDeclineOf, Playback, playback, playedOf, playOf}
 use Rattle.script_program.specs.Program.{smallest, firstBank, erasedBank, startOf, longest, declineLine, outputRoom}
 use Rattle.script_program.specs.Program.{Printout, printedOf, takenOf, writtenOf, printOf}
-use Rattle.script_play.proofs.ControllerLaws.{Bytes, play-sound}
+use Rattle.script_play.proofs.ControllerLaws.{play-sound}
 use Rattle.script_play.proofs.PlayLaws.{lines-length}
 
 -- any power-on of the program's banks gives its device
