@@ -41,6 +41,10 @@ pub enum Decline {
     ScriptBuffer,
     // 18: the buffer is shorter than the sheet.
     SheetBuffer,
+    // 20: more than 64 records.
+    Records,
+    // 21: the play never gives the number.
+    NotShown,
     // 22: the two lengths differ or are no multiple of 4.
     Lanes,
 }
@@ -70,6 +74,8 @@ impl Decline {
             Decline::NoWait => 16,
             Decline::ScriptBuffer => 17,
             Decline::SheetBuffer => 18,
+            Decline::Records => 20,
+            Decline::NotShown => 21,
             Decline::Lanes => 22,
         }
     }

@@ -40,6 +40,8 @@ use Rattle.planner.specs.Windows.{inRangeOf as inRangeAll}
 use Rattle.sheet.specs.Sheet.{sheetBytesOf, pageSheetDeclineOf, Given, pageSheetOf}
 use Rattle.lanes.specs.Lanes.{lanesDeclineOf}
 use Rattle.script_write.specs.Script.{scriptBytesOf, writeScriptDeclineOf, Writing, writeScriptOf}
+use Rattle.script_smallest.specs.Smallest.{showsOf, unplayedDeclineOf, Smallest, searchedOf, smallestOf}
+use Rattle.script_smallest.proofs.AnswerLaws.{one-of-six}
 use Rattle.reach.specs.Reach.{reachOf}
 use Rattle.yohrundel.specs.NoNine.{Not9, NoNine}
 
@@ -164,6 +166,16 @@ write-script g s image buffer =
     (first (startOf g s image .decline) _ (update-start g s image)
     (pick-both Not9 (leb (scriptBytesOf g) (length buffer)) (λ e. omega arith) (λ e. omega arith)))
 
+smallest : (g : Geometry) (sram : List ℕ) (s : State) (script : List ℕ) (number : ℕ) (one two result : List ℕ)
+    → Not9 (smallestOf g sram s script number one two result .decline)
+unfolding smallestOf searchedOf
+smallest g sram s script number one two result =
+    let decline = unplayedDeclineOf g s (length sram) script (length one) (length two) (length result) in
+    pick-both (λ (a : Smallest). Not9 (a .decline)) (acceptedOf decline)
+    (pick-both (λ (a : Smallest). Not9 (a .decline)) (showsOf g sram s number script) (λ e. omega arith) (λ e. omega arith))
+    (one-of-six Not9 g s (length sram) script (length one) (length two) (length result) (λ e. omega arith) (λ e. omega arith) (λ e. omega arith)
+    (λ e. omega arith) (λ e. omega arith) (λ e. omega arith))
+
 reach : (g : Geometry) (image other : List ℕ) → Not9 (reachOf g image other .decline)
 unfolding reachOf
 reach g image other = lent g (length image ∷ length other ∷ []) 0
@@ -187,5 +199,6 @@ no-nine =
       plan = plan;
       lanes = lanes;
       write-script = write-script;
+      smallest = smallest;
       reach = reach;
     }

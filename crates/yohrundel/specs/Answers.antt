@@ -24,6 +24,7 @@ use Rattle.update.specs.declared.start.Started.{Started}
 use Rattle.planner.specs.declared.plan.Planned.{Planned}
 use Rattle.sheet.specs.Sheet.{Given}
 use Rattle.script_write.specs.Script.{Writing}
+use Rattle.script_smallest.specs.Smallest.{Smallest}
 use Rattle.reach.specs.declared.ReachAnswer.{ReachAnswer}
 use Rattle.reach.specs.declared.ReachAnswer.the-variants.{Action, NoAction, Words, Declined}
 use Rattle.reach.specs.declared.Reached.{Reached}
@@ -42,6 +43,7 @@ use Rattle.yohrundel.specs.declared.answers.PlayLengthAnswer.{PlayLength
 use Rattle.yohrundel.specs.declared.answers.PlanAnswer.{PlanAnswer}
 use Rattle.yohrundel.specs.declared.answers.PageSheetAnswer.{PageSheetAnswer}
 use Rattle.yohrundel.specs.declared.answers.WriteScriptAnswer.{WriteScriptAnswer}
+use Rattle.yohrundel.specs.declared.answers.SmallestAnswer.{SmallestAnswer}
 use Rattle.yohrundel.specs.declared.answers.ReachResult.{ReachResult}
 
 -- ---- calls that lend nothing for writing: the answer is the definition's result
@@ -124,3 +126,10 @@ PageSheetGives a r buffer = (r ≡ record { decline = numberOf (a .decline); byt
 
 abbrev pub WriteScriptGives : Writing → WriteScriptAnswer → List ℕ → Type 0
 WriteScriptGives a r buffer = (r ≡ record { decline = numberOf (a .decline); records = a .records }) × (buffer ≡ a .buffer)
+
+abbrev pub SmallestGives : Smallest → SmallestAnswer → List ℕ → List ℕ → List ℕ → Type 0
+SmallestGives a r one two result =
+    (r ≡ record { decline = numberOf (a .decline); records = a .records })
+    × (one ≡ a .scratchOne)
+    × (two ≡ a .scratchTwo)
+    × (result ≡ a .result)

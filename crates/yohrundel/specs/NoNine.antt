@@ -20,6 +20,7 @@ use Rattle.planner.specs.Planner.{planOf}
 use Rattle.sheet.specs.Sheet.{pageSheetOf}
 use Rattle.lanes.specs.Lanes.{lanesDeclineOf}
 use Rattle.script_write.specs.Script.{writeScriptOf}
+use Rattle.script_smallest.specs.Smallest.{smallestOf}
 use Rattle.reach.specs.Reach.{reachOf}
 
 abbrev pub Not9 : Decline → Type 0
@@ -43,4 +44,6 @@ pub record NoNine : Type 0 where
   pub plan : (minute duration : ℕ) (windows : List ℕ) → Not9 (planOf minute duration windows .decline)
   pub lanes : (source target : ℕ) → Not9 (lanesDeclineOf source target)
   pub write-script : (g : Geometry) (s : State) (image buffer : List ℕ) → Not9 (writeScriptOf g s image buffer .decline)
+  pub smallest : (g : Geometry) (sram : List ℕ) (s : State) (script : List ℕ) (number : ℕ) (one two result : List ℕ)
+      → Not9 (smallestOf g sram s script number one two result .decline)
   pub reach : (g : Geometry) (image other : List ℕ) → Not9 (reachOf g image other .decline)

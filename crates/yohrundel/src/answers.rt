@@ -107,6 +107,12 @@ pub struct WriteScriptAnswer {
     pub records: u32,
 }
 
+#[repr(C)]
+pub struct SmallestAnswer {
+    pub decline: u32,
+    pub records: u32,
+}
+
 // What two images differ in: the kind of the answer by its number, then the place of the action that differs, or the differing words.
 // What a kind does not use is 0.
 #[repr(C)]

@@ -1,0 +1,14 @@
+pub mod WithoutLaws
+pub mod SetLaws
+pub mod RemoveLaws
+pub mod TrialLaws
+pub mod DroppingLaws
+pub mod SearchLaws
+pub mod ShowLaws
+pub mod DropLaws
+pub mod PartLaws
+pub mod PlayLaws
+pub mod ShownLaws
+pub mod AnswerLaws
+pub mod Examples
+pub mod SmallestScripts
