@@ -4,6 +4,7 @@ mod moves;
 mod requests;
 mod runs;
 mod shapes;
+mod smallest;
 mod walks;
 
 pub use shapes::{Call, Rest, Shape, BASE, SHAPES};
@@ -60,22 +61,34 @@ impl Case {
         if shape.device {
             case.device = take_device(numbers)?;
         }
-        for number in 0..shape.lists {
-            let list = List::take(numbers)?;
-            if number + shape.bytes >= shape.lists && !list.holds_bytes() {
-                return None;
-            }
-            case.lists.push(list);
-        }
+        case.take_lists(shape, shape.lists - shape.behind, numbers)?;
         for _ in 0..shape.numbers {
             case.numbers.push(numbers.next()?);
         }
+        case.take_lists(shape, shape.behind, numbers)?;
         match shape.rest {
             Rest::Nothing => {}
             Rest::Pairs => case.numbers.extend(take_pairs(numbers)?),
             Rest::Moves(counts) => case.numbers.extend(moves::take_moves(counts, numbers)?),
         }
         Some(case)
+    }
+
+    /// Takes more of the lists.
+    fn take_lists(
+        &mut self,
+        shape: &Shape,
+        count: usize,
+        numbers: &mut impl Iterator<Item = u32>,
+    ) -> Option<()> {
+        for _ in 0..count {
+            let list = List::take(numbers)?;
+            if self.lists.len() + shape.bytes >= shape.lists && !list.holds_bytes() {
+                return None;
+            }
+            self.lists.push(list);
+        }
+        Some(())
     }
 
     /// What stands left of the bar.
@@ -88,10 +101,14 @@ impl Case {
         if shape.device {
             put_device(&self.device, &mut numbers);
         }
-        for list in &self.lists {
+        let (front, behind) = self.lists.split_at(self.lists.len() - shape.behind);
+        for list in front {
             list.put(&mut numbers);
         }
         numbers.extend(&self.numbers);
+        for list in behind {
+            list.put(&mut numbers);
+        }
         let mut text = String::from(shape.name);
         for number in numbers {
             text.push(' ');
@@ -116,6 +133,7 @@ impl Case {
             Call::ValidBySum => vec![u32::from(valid(self.numbers[0]))],
             Call::Walk => self.answer_walk(),
             Call::Run => self.answer_run()?,
+            Call::Smallest => self.answer_smallest(),
             _ => match self.answer_call() {
                 Ok(mut outputs) => {
                     outputs.insert(0, 0);

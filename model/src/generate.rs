@@ -11,6 +11,7 @@ mod reaches;
 mod record_edges;
 mod scripts;
 mod sheets;
+mod smallest;
 mod tries;
 mod walks;
 mod write_scripts;

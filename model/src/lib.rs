@@ -17,6 +17,7 @@ pub mod reach;
 pub mod script;
 pub mod sequence;
 pub mod sheet;
+pub mod smallest;
 pub mod store;
 pub mod tries;
 pub mod update;
@@ -44,6 +45,8 @@ pub enum Refusal {
     NoWait = 16,
     ScriptBuffer = 17,
     SheetBuffer = 18,
+    Records = 20,
+    NotShown = 21,
     LaneLengths = 22,
 }
 

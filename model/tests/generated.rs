@@ -31,6 +31,7 @@ fn declines(call: Call) -> &'static [u32] {
         Call::LanesOut | Call::LanesBack => &[22],
         Call::WriteScript => &[1, 2, 3, 5, 10, 11, 12, 17],
         Call::Reach => &[1, 2],
+        Call::Smallest => &[1, 2, 3, 14, 20, 21],
     }
 }
 
@@ -96,13 +97,21 @@ fn tries_class(case: &Case) -> String {
     format!("of {:?} that end with {after}", case.device.running_bank())
 }
 
+/// Whether a script that shows its number is left as it was, and the number.
+fn smallest_class(case: &Case) -> String {
+    let answer = case.answer().unwrap();
+    let records: usize = answer.split(' ').nth(1).unwrap().parse().unwrap();
+    let whole = 8 * records == case.lists[5].length;
+    format!("of {} left whole {whole}", case.numbers[0])
+}
+
 /// Sheets of every Q, under all four mappings, of idle and running devices; plans of few and many windows; scripts for both old
 /// banks into buffers of their length and longer; images that are equal, one word apart, outside and in the sequence quad, and several;
-/// tries of both old banks that end with the old and with the new.
+/// tries of both old banks that end with the old and with the new; scripts that show each number, left whole and not.
 #[test]
 fn requests_vary() {
     let mut seen = BTreeSet::new();
-    for case in Cases::of_requests(1, 512).take(3000) {
+    for case in Cases::of_requests(1, 512).take(6000) {
         let accepted = first_number(&case.answer().unwrap()) == 0;
         match case.call {
             Call::PageSheet if accepted => {
@@ -122,13 +131,16 @@ fn requests_vary() {
             Call::Run if accepted => {
                 seen.insert(format!("tries {}", tries_class(&case)));
             }
+            Call::Smallest if accepted => {
+                seen.insert(format!("smallest {}", smallest_class(&case)));
+            }
             Call::Plan => {
                 seen.insert(format!("windows {}", case.numbers[2].min(15)));
             }
             _ => {}
         }
     }
-    assert_eq!(seen.len(), 8 + 4 + 2 + 16 + 4 + 4 + 4, "{seen:?}");
+    assert_eq!(seen.len(), 8 + 4 + 2 + 16 + 4 + 4 + 4 + 6, "{seen:?}");
 }
 
 /// Running devices that were and were not loaded since their launch; impossible ones by what was launched alone.

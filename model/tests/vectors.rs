@@ -86,6 +86,31 @@ fn lines_that_are_no_case_of_a_request() {
     }
 }
 
+/// The number stands between the script and the result.
+#[test]
+fn lines_that_are_no_case_of_a_smallest_script() {
+    let device = "0 0 0 0 0 0 0 0 2147483648 40927 2031616 0 0 0 0 0 0 0 0";
+    let banks = "64 7 0 64 7 0";
+    let smallest = |rest| {
+        answer_line(&format!(
+            "smallest 1 1 1 {device} {banks} 0 0 0 {banks} {rest}"
+        ))
+    };
+    assert_eq!(smallest("8 0 1 0 1 6 8 0 0"), "0 1 1 0 1 0");
+    for rest in [
+        "",
+        "8 0 1 0 1",
+        "8 0 1 0 1 6",
+        "8 0 1 0 1 8 0 0",
+        "8 0 1 0 1 8 0 0 6",
+        "8 0 1 0 1 6 8 0 0 0",
+        "8 256 0 6 8 0 0",
+        "8 0 0 6 8 0 1 0 256",
+    ] {
+        assert_eq!(smallest(rest), "?", "{rest}");
+    }
+}
+
 #[test]
 fn text_after_a_bar_is_ignored() {
     assert_eq!(answer_line("compare 65535 0 | 2"), "1");

@@ -80,7 +80,7 @@ impl Case {
 }
 
 /// The count of changed bytes, then index and new byte of each.
-fn byte_changes(before: &[u8], after: &[u8]) -> Vec<u32> {
+pub(super) fn byte_changes(before: &[u8], after: &[u8]) -> Vec<u32> {
     let mut outputs = vec![0];
     for (index, byte) in after.iter().enumerate() {
         if before[index] != *byte {

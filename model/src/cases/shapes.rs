@@ -25,6 +25,7 @@ pub enum Call {
     WriteScript,
     Reach,
     Run,
+    Smallest,
 }
 
 /// The inputs of a call, in the order in which a line gives them.
@@ -37,6 +38,8 @@ pub struct Shape {
     /// How many of the lists, the last ones, are lists of bytes.
     pub bytes: usize,
     pub numbers: usize,
+    /// How many of the lists, the last ones, stand behind the numbers.
+    pub behind: usize,
     pub rest: Rest,
 }
 
@@ -66,12 +69,13 @@ const fn shape(
         lists,
         bytes: 0,
         numbers,
+        behind: 0,
         rest: Rest::Nothing,
     }
 }
 
 /// The calls of the base stand first, those of later requests follow.
-pub const SHAPES: [Shape; 23] = [
+pub const SHAPES: [Shape; 24] = [
     shape(Call::Compare, "compare", false, false, 0, 2),
     shape(Call::Possible, "possible", true, true, 0, 0),
     shape(Call::Protected, "protected", true, true, 0, 3),
@@ -115,6 +119,11 @@ pub const SHAPES: [Shape; 23] = [
     Shape {
         rest: Rest::Moves(&RUN_MOVES),
         ..shape(Call::Run, "run", true, true, 3, 0)
+    },
+    Shape {
+        bytes: 2,
+        behind: 1,
+        ..shape(Call::Smallest, "smallest", true, true, 7, 1)
     },
 ];
 

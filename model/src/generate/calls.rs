@@ -15,8 +15,8 @@ use super::memory;
 use super::places::{self, Start};
 use super::plans::plan_case;
 use super::reaches::images;
-
 use super::sheets::page_sheet_case;
+use super::smallest::smallest_case;
 use super::tries::run_case;
 use super::walks::walk_case;
 use super::write_scripts::put_script_buffer;
@@ -76,6 +76,7 @@ fn fill_case(random: &mut Random, geometry: &Geometry, case: &mut Case) {
             put_banks(random, case, images);
         }
         Call::Run => run_case(random, geometry, case),
+        Call::Smallest => smallest_case(random, geometry, case),
         Call::ValidBySum => case.numbers = vec![memory::sequence_word(random)],
     }
 }
@@ -179,7 +180,7 @@ fn put_sram(random: &mut Random, case: &mut Case) {
     put_sram_words(random, case, &sram);
 }
 
-fn put_sram_words(random: &mut Random, case: &mut Case, words: &[u32]) {
+pub fn put_sram_words(random: &mut Random, case: &mut Case, words: &[u32]) {
     let mut list = List::from_words(words);
     if random.one_in(2 * SPOILED) {
         list.length = SRAM_LIMIT + random.pick(&[1, 2, 3_616]);

@@ -19,7 +19,7 @@ pub fn script(seed: u64, damaged: bool) -> Vec<u8> {
     let mut random = Random::new(seed);
     let mut records = Vec::new();
     for _ in 0..random.between(1, 40) {
-        part(&mut random, &mut records);
+        part(&mut random, &GEOMETRY, &mut records);
     }
     let mut bytes: Vec<u8> = records.iter().flat_map(Record::bytes).collect();
     if damaged || random.one_in(8) {
@@ -43,9 +43,10 @@ pub(super) fn keys(records: &mut Vec<Record>) {
     }
 }
 
-fn part(random: &mut Random, records: &mut Vec<Record>) {
+/// Some records that belong together.
+pub(super) fn part(random: &mut Random, geometry: &Geometry, records: &mut Vec<Record>) {
     match random.below(10) {
-        0..=4 => operation(random, records),
+        0..=4 => operation(random, geometry, records),
         5 => clear_errors(random, records),
         6 => protection(random, records),
         7 => swap(random, records),
@@ -57,13 +58,13 @@ fn part(random: &mut Random, records: &mut Vec<Record>) {
 }
 
 /// A launch and its steps, at times too few or too many.
-fn operation(random: &mut Random, records: &mut Vec<Record>) {
+fn operation(random: &mut Random, geometry: &Geometry, records: &mut Vec<Record>) {
     let nvmop = if random.one_in(10) {
         random.below(16)
     } else {
         random.between(2, 7)
     };
-    let address = target(random);
+    let address = target(random, geometry);
     store(records, NVMCON, CLEAR, WREN);
     store(records, NVMADDR, PLAIN, address);
     if nvmop == 2 {
@@ -80,37 +81,38 @@ fn operation(random: &mut Random, records: &mut Vec<Record>) {
     let plain = random.one_in(6);
     store(records, NVMCON, if plain { PLAIN } else { SET }, WR);
     let loading = random.one_in(4);
-    for _ in 0..steps(random, nvmop) {
+    for _ in 0..steps(random, geometry, nvmop) {
         if loading {
-            load(random, records);
+            load(random, geometry, records);
         }
         records.push(Record::Step);
     }
 }
 
 /// A store to NVMADDR, NVMDATA0 to 3 or NVMSRCADDR while the operation runs.
-fn load(random: &mut Random, records: &mut Vec<Record>) {
+fn load(random: &mut Random, geometry: &Geometry, records: &mut Vec<Record>) {
     let register = random.between(NVMADDR as u32, NVMSRCADDR as u32) as usize;
     let value = if register == NVMADDR {
-        target(random)
+        target(random, geometry)
     } else {
         random.edge_word()
     };
     store(records, register, random.below(4), value);
 }
 
-fn target(random: &mut Random) -> u32 {
+fn target(random: &mut Random, geometry: &Geometry) -> u32 {
     match random.below(4) {
-        0 => devices::address(random, &GEOMETRY),
+        0 => devices::address(random, geometry),
         1 => random.pick(&[LOWER_PROGRAM, LOWER_PROGRAM + 0x80, LOWER_BOOT, UPPER_BOOT]),
         2 => random.pick(&[LOWER_BOOT, UPPER_BOOT]) + 0x70,
-        _ => devices::inside_address(random, &GEOMETRY),
+        _ => devices::inside_address(random, geometry),
     }
 }
 
-fn steps(random: &mut Random, nvmop: u32) -> u32 {
+fn steps(random: &mut Random, geometry: &Geometry, nvmop: u32) -> u32 {
     let length = match nvmop {
-        2 | 3 => 1,
+        2 => 1,
+        3 => geometry.row_quads,
         4..=6 => 8,
         7 => 16,
         _ => 0,
@@ -186,7 +188,7 @@ fn any_record(random: &mut Random, records: &mut Vec<Record>) {
 }
 
 /// Makes decline 14 apply.
-fn damage(random: &mut Random, bytes: &mut Vec<u8>) {
+pub(super) fn damage(random: &mut Random, bytes: &mut Vec<u8>) {
     let record = 8 * random.below(bytes.len() as u32 / 8) as usize;
     let any = random.between(1, 255) as u8;
     match random.below(6) {
