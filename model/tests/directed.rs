@@ -5,7 +5,8 @@ use std::collections::{BTreeMap, BTreeSet};
 use model::cases::{answer_line, Call, Case};
 use model::device::{WR, WRERR};
 use model::generate::directed::{
-    cases, ordered, ordered_reaches, ordered_sheets, ordered_writes, request_cases,
+    cases, ordered, ordered_reaches, ordered_sheets, ordered_smallest, ordered_writes,
+    request_cases,
 };
 use model::generate::{line, record_edges, refused_scripts};
 use model::script::play;
@@ -77,6 +78,8 @@ fn outcome(case: &Case) -> String {
         Call::FlashRead => "counted",
         Call::Reset if numbers[AFTER_DEVICE + 1] > 0 => "torn",
         Call::Reset => "untouched",
+        Call::Smallest if 8 * numbers[1] as usize == case.lists[5].length => "whole",
+        Call::Smallest => "reduced",
         Call::Reach => ["action", "none", "words"][numbers[1] as usize],
         Call::Turn if numbers[1] == 1 => "done",
         Call::Turn if numbers[TURN_EVENT + 1] > 0 => "written",
@@ -163,6 +166,7 @@ const EXPECTED: &[(&str, &str, &str)] = &[
     ("writes", "write_script", "accepted 1 2 3 5 10 11 12 17"),
     ("reaches", "reach", "action none words 1 2"),
     ("tries", "run", "old new none"),
+    ("smallest", "smallest", "whole reduced 1 2 3 14 20 21"),
 ];
 
 #[test]
@@ -205,7 +209,13 @@ fn no_call_is_declined_with_9() {
 
 #[test]
 fn the_lowest_decline_is_given() {
-    let requests = [ordered_sheets(), ordered_writes(), ordered_reaches()].concat();
+    let requests = [
+        ordered_sheets(),
+        ordered_writes(),
+        ordered_reaches(),
+        ordered_smallest(),
+    ]
+    .concat();
     for (lowest, case) in ordered().into_iter().chain(requests) {
         assert_eq!(numbers(&case)[0], lowest, "{}", case.inputs());
     }

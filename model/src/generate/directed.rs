@@ -20,6 +20,7 @@ mod resets;
 mod rows;
 mod sheets;
 mod singles;
+mod smallest;
 mod start_ups;
 mod steps;
 mod sums;
@@ -33,6 +34,7 @@ mod writes;
 pub use orders::ordered;
 pub use reaches::ordered_reaches;
 pub use sheets::ordered_sheets;
+pub use smallest::ordered_smallest;
 pub use writes::ordered_writes;
 
 use std::collections::HashSet;
@@ -69,7 +71,7 @@ pub const SUBJECTS: [Subject; 16] = [
 ];
 
 /// Subjects of the calls that later requests added.
-pub const REQUEST_SUBJECTS: [Subject; 11] = [
+pub const REQUEST_SUBJECTS: [Subject; 12] = [
     subject("plans", plans::cases),
     subject("sheets", sheets::cases),
     subject("lanes", lanes::cases),
@@ -81,6 +83,7 @@ pub const REQUEST_SUBJECTS: [Subject; 11] = [
     subject("writes", writes::cases),
     subject("reaches", reaches::cases),
     subject("tries", tries::cases),
+    subject("smallest", smallest::cases),
 ];
 
 /// The cases of the base's subjects.

@@ -142,7 +142,7 @@ pub fn second_shorter(case: &mut Case) {
     case.lists[1].length -= 1;
 }
 
-fn long_sram(case: &mut Case) {
+pub fn long_sram(case: &mut Case) {
     case.lists[2] = List::from_words(&vec![0; SRAM_LIMIT + 1]);
 }
 
@@ -154,7 +154,7 @@ fn long_fourth(case: &mut Case) {
     case.lists[3] = List::from_words(&vec![0; SRAM_LIMIT + 1]);
 }
 
-fn key_step_four(case: &mut Case) {
+pub fn key_step_four(case: &mut Case) {
     case.device.key_step = 4;
 }
 
