@@ -13,15 +13,17 @@
  *
  *   Every number, every length and every content of the lent memory is taken. A call does its work, or declines it by a number of
  *   enum yohrundel_decline, the lowest that applies. A declined call changes nothing: the device in its answer is the one handed over,
- *   the banks, the buffer and the target keep their contents.
+ *   the banks, the buffer and the target keep their contents. There is one exception: where yohrundel_smallest is declined by 21, its
+ *   scratch banks hold what the banks hold.
  *
  * Mistakes that no call can see
  *
  *   - a pointer that does not point to as many words, bytes or windows as the count beside it says, or is not aligned for them;
  *     a null pointer goes with the count 0 only, and the device of yohrundel_turn_lent is never null;
  *   - lent memory that overlaps other lent memory where one of the two is written: the two banks, the device of yohrundel_turn_lent,
- *     the buffers of yohrundel_play, yohrundel_page_sheet and yohrundel_write_script and the target of byte lanes are; where both are
- *     only read, they may overlap;
+ *     the buffers of yohrundel_play, yohrundel_page_sheet and yohrundel_write_script, the scratch banks and the result of
+ *     yohrundel_smallest and the target of byte lanes are; where both are only read, as the two banks of yohrundel_smallest, they may
+ *     overlap;
  *   - lent memory that another thread changes during the call.
  *
  * Sizes
@@ -56,6 +58,9 @@ extern "C" {
 /* Bytes of the script that an update is written as: 8 for each of its actions. */
 #define YOHRUNDEL_SCRIPT_BYTES(q, b, p) (8 * (12 + 8 * ((b) + (p)) + 112 * ((b) + (p)) * (q)))
 
+/* The most records of a script of which yohrundel_smallest finds the smallest that shows a number. */
+#define YOHRUNDEL_MOST_RECORDS 64
+
 /* The most windows of a plan. */
 #define YOHRUNDEL_MOST_WINDOWS 14
 
@@ -72,7 +77,7 @@ enum yohrundel_decline {
     YOHRUNDEL_ACCEPTED = 0,
     /* Q, B or P is outside its list or range. */
     YOHRUNDEL_DECLINE_GEOMETRY = 1,
-    /* A bank or image has another length than N×32×Q words, or the SRAM exceeds 16,384. */
+    /* A bank or image has another length than N×32×Q words, a result another length than its script, or the SRAM exceeds 16,384. */
     YOHRUNDEL_DECLINE_LENGTH = 2,
     /*
      * The device record is impossible: an unimplemented bit set, NVMBWP bit 6 clear, NVMKEY not 0, key step above 3, WR = 0 with step
@@ -116,6 +121,10 @@ enum yohrundel_decline {
     YOHRUNDEL_DECLINE_SCRIPT_BUFFER = 17,
     /* A buffer that is shorter than the page sheet. */
     YOHRUNDEL_DECLINE_SHEET_BUFFER = 18,
+    /* A script of more than 64 records, of which the smallest that shows a number is asked. */
+    YOHRUNDEL_DECLINE_RECORDS = 20,
+    /* The play of that script never gives the number. */
+    YOHRUNDEL_DECLINE_NOT_SHOWN = 21,
     /* Byte lanes whose source and target differ in length, or have no multiple of 4 bytes. */
     YOHRUNDEL_DECLINE_LANES = 22
 };
@@ -358,6 +367,13 @@ typedef struct yohrundel_write_script_answer {
     uint32_t records;
 } yohrundel_write_script_answer;
 
+/* The answer to the question which smallest script shows a number. */
+typedef struct yohrundel_smallest_answer {
+    uint32_t decline;
+    /* The records of the result; 0 where declined. */
+    uint32_t records;
+} yohrundel_smallest_answer;
+
 /* The answer to the question how far one word reaches. A number that its kind does not use is 0. */
 typedef struct yohrundel_reach_answer {
     uint32_t decline;
@@ -400,7 +416,7 @@ typedef struct yohrundel_page_sheet_answer {
  * Since the device record has launched, these calls have new symbols: an object file that was compiled with the record as it was before
  * does not link with these archives, where its device would be too short. The flash read has another one since it is lent the SRAM, may
  * change the banks and gives a device. Programs call them by their names, and are compiled again. A call that came later, as
- * yohrundel_write_script, has its name as its symbol.
+ * yohrundel_write_script and yohrundel_smallest, has its name as its symbol.
  */
 #define yohrundel_power_on yohrundel_power_on_2
 #define yohrundel_store yohrundel_store_2
@@ -536,7 +552,7 @@ yohrundel_turn_outcome yohrundel_turn_lent(
     uint32_t place);
 
 /*
- * ---- calls that play and write a service script
+ * ---- calls that play, write and reduce a service script
  *
  * A record of the script has 8 bytes: kind (0 store, 1 step, 2 reset), register or reset kind, form, 0, value little-endian; unused bytes
  * are 0. Resets use mask 0. A record's line is its number from 0, its answer, NVMCON in eight hexadecimal capitals and the event, 0 or 1,
@@ -581,6 +597,32 @@ yohrundel_write_script_answer yohrundel_write_script(
     const uint32_t *two, size_t two_words,
     const uint32_t *image, size_t image_words,
     uint8_t *out, size_t out_bytes);
+
+/*
+ * The smallest script that shows a number: drops the lowest record of a script without which its play still gives the number as an answer,
+ * begins again from the top, and stops when none can go. The result, of script_bytes bytes, gets the records that are left, in their order,
+ * and then zeros. Declines 1, 2, 3, 14, 20 and 21, in this order.
+ *
+ * The play of the result gives the number, and without any one of its records it does not. It need not have the fewest records: two that
+ * undo each other both stay where one of them alone would hide the number, though the play without both gives it too.
+ *
+ * Each trial plays on the scratch banks, as long as the banks, from the device and the contents of the banks. The banks themselves never
+ * change. Afterwards the scratch banks hold what the banks hold, also where the call is declined by 21; by any other decline they keep
+ * their contents. The result keeps its contents by every decline.
+ *
+ * A record is answered by 0, 4, 5 or 6. The number 0 counts as never given, so any other number than 4, 5 and 6 is declined by 21. There
+ * are at most 2,081 trials, of which each sets both scratch banks.
+ */
+yohrundel_smallest_answer yohrundel_smallest(
+    yohrundel_geometry g, yohrundel_device d,
+    const uint32_t *one, size_t one_words,
+    const uint32_t *two, size_t two_words,
+    const uint32_t *sram, size_t sram_words,
+    uint32_t *scratch_one, size_t scratch_one_words,
+    uint32_t *scratch_two, size_t scratch_two_words,
+    const uint8_t *script, size_t script_bytes,
+    uint32_t number,
+    uint8_t *result, size_t result_bytes);
 
 /*
  * ---- the call that compares two images

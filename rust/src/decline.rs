@@ -8,7 +8,7 @@ use std::fmt;
 pub enum Decline {
     /// Q, B or P is outside its list or range.
     Geometry = 1,
-    /// A bank or image has another length than N×32×Q words, or the SRAM exceeds 16,384.
+    /// A bank or image has another length than N×32×Q words, a result another length than its script, or the SRAM exceeds 16,384.
     Length = 2,
     /// The device record is impossible.
     Device = 3,
@@ -42,13 +42,17 @@ pub enum Decline {
     ScriptBuffer = 17,
     /// A buffer that is shorter than the page sheet.
     SheetBuffer = 18,
+    /// A script of more than 64 records, of which the smallest that shows a number is asked.
+    Records = 20,
+    /// The play of that script never gives the number.
+    NotShown = 21,
     /// Byte lanes whose source and target differ in length, or have no multiple of 4 bytes.
     Lanes = 22,
 }
 
 impl Decline {
     /// All of them, in the order of their numbers.
-    pub const ALL: [Decline; 19] = [
+    pub const ALL: [Decline; 21] = [
         Decline::Geometry,
         Decline::Length,
         Decline::Device,
@@ -67,6 +71,8 @@ impl Decline {
         Decline::NoWait,
         Decline::ScriptBuffer,
         Decline::SheetBuffer,
+        Decline::Records,
+        Decline::NotShown,
         Decline::Lanes,
     ];
 
@@ -78,7 +84,7 @@ impl Decline {
     fn reason(self) -> &'static str {
         match self {
             Decline::Geometry => "the quads per row, boot pages or program pages are out of range",
-            Decline::Length => "a bank, the image or the SRAM has a wrong length",
+            Decline::Length => "a bank, the image, the SRAM or the result has a wrong length",
             Decline::Device => "the device record is impossible",
             Decline::Register => "there is no such register or form",
             Decline::Running => "an operation is running",
@@ -95,6 +101,8 @@ impl Decline {
             Decline::NoWait => "no wait fits",
             Decline::ScriptBuffer => "the buffer is shorter than the script",
             Decline::SheetBuffer => "the buffer is shorter than the sheet",
+            Decline::Records => "the script has more than 64 records",
+            Decline::NotShown => "the play never gives the number",
             Decline::Lanes => "the two lengths differ or are no multiple of 4",
         }
     }

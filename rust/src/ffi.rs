@@ -13,12 +13,14 @@ mod lanes;
 mod plan;
 mod reach;
 mod sheet;
+mod smallest;
 mod write_script;
 
 pub(crate) use lanes::{lanes_back, lanes_out};
 pub(crate) use plan::plan_numbers;
 pub(crate) use reach::reach;
 pub(crate) use sheet::page_sheet;
+pub(crate) use smallest::smallest;
 pub(crate) use write_script::write_script;
 
 use crate::{Device, Geometry};

@@ -1,7 +1,8 @@
 //! The Live Update flash controller and its bank updater, proved in Rattle and called from Rust.
 //!
 //! A sign has a [`Device`] and two banks of words, whose sizes its [`Geometry`] gives. Each call takes them, does its work, or is
-//! declined by a [`Decline`]; a declined call leaves everything as it was. Any numbers, lengths and contents are taken.
+//! declined by a [`Decline`]; a declined call leaves everything as it was, but for the scratch banks of [`smallest`]. Any numbers,
+//! lengths and contents are taken.
 //!
 //! ```
 //! use yohrundel::{reset, start_up, update_start, Bank, Decline, Device, Geometry, Reason};
@@ -38,6 +39,7 @@ mod plan;
 mod reach;
 mod script_calls;
 mod sheet;
+mod smallest;
 mod update_calls;
 
 pub use bank_calls::{flash_read, lower_bank, page, reset, step, FlashRead, Restarted, Stepped};
@@ -53,4 +55,5 @@ pub use plan::plan;
 pub use reach::{reach, Reach};
 pub use script_calls::{play, play_length, write_script, Played};
 pub use sheet::page_sheet;
+pub use smallest::{smallest, Bench, MOST_RECORDS};
 pub use update_calls::{turn, turn_lent, update_start, Started, TurnOutcome, Turned};

@@ -3,7 +3,7 @@
 use std::collections::{BTreeMap, BTreeSet};
 use std::fmt::Debug;
 
-use yohrundel::{form, nvmcon, register, reset_kind, Decline, Reason};
+use yohrundel::{form, nvmcon, register, reset_kind, Decline, Reason, MOST_RECORDS};
 
 const HEADER: &str = include_str!("../../include/yohrundel.h");
 
@@ -40,9 +40,10 @@ fn constant(of: &str, variant: impl Debug) -> String {
 }
 
 /// The numbers that have a name of their own in the header.
-const NAMED: [(&str, u32); 32] = [
+const NAMED: [(&str, u32); 33] = [
     ("ACCEPTED", 0),
     ("MOST_SRAM_WORDS", 16_384),
+    ("MOST_RECORDS", MOST_RECORDS as u32),
     ("MOST_WINDOWS", 14),
     // The wrapper's reset gives an error then.
     ("REASON_NOT_COMPARED", 4),
@@ -127,7 +128,7 @@ fn declared(line: &'static str) -> Option<&'static str> {
 }
 
 /// Calls that came when the device had its present length, and so have their name as their symbol.
-const LATER: [&str; 1] = ["yohrundel_write_script"];
+const LATER: [&str; 2] = ["yohrundel_smallest", "yohrundel_write_script"];
 
 /// The calls that take a device, in their first line or in the second, and the one that gives it alone.
 fn with_a_device() -> BTreeSet<&'static str> {

@@ -11,6 +11,7 @@ use crate::bank_cases::{flash_read_case, play_case, reset_case, step_case, turn_
 use crate::byte_cases::{lanes_case, sheet_case, write_script_case};
 use crate::inputs::Inputs;
 use crate::rules::{self, possible, protected};
+use crate::smallest::smallest_case;
 
 /// What no call of the archive gives: the tests of the program `cases` compare it.
 const NO_CALLS: &[&str] = &["valid_by_sum", "walk", "run"];
@@ -65,6 +66,7 @@ fn call(name: &str, inputs: &mut Inputs) -> String {
         "lanes_back" => lanes_case(inputs, lanes_back),
         "write_script" => write_script_case(inputs),
         "reach" => text(&reach_case(inputs)),
+        "smallest" => smallest_case(inputs),
         _ => panic!("no case of a call: {name}"),
     }
 }

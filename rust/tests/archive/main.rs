@@ -20,6 +20,7 @@ mod rules;
 mod scripts;
 mod settings;
 mod sign;
+mod smallest;
 mod tries;
 mod updates;
 mod written;

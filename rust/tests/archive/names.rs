@@ -64,6 +64,8 @@ fn numbers_of_the_declines() {
         Refusal::NoWait,
         Refusal::ScriptBuffer,
         Refusal::SheetBuffer,
+        Refusal::Records,
+        Refusal::NotShown,
         Refusal::LaneLengths,
     ];
     assert_eq!(
