@@ -65,12 +65,34 @@ fn long_lists() {
         String::from("reach 128 5 128 544768 0 0 544768 0 1 544767 1"),
         String::from("reach 128 5 128 544769 0 0 4000000 0 1 3999999 1"),
     ];
-    let answered = lines.map(|line| {
-        let expected = answer_line(&line);
-        (line, expected)
-    });
+    check_lines(&lines);
+}
+
+/// Cases that the model answers while the test runs.
+fn check_lines(lines: &[String]) {
+    let answered = lines.iter().map(|line| (line.clone(), answer_line(line)));
+    let answered: Vec<(String, String)> = answered.collect();
     assert!(answered.iter().all(|(_, expected)| expected != "?"));
     check(&answered);
+}
+
+/// The largest banks and longer ones, and scripts and results of more bytes than a play takes.
+#[test]
+fn long_lists_of_a_smallest_script() {
+    let device = "0 0 0 0 0 0 0 0 2147483648 40927 2031616 0 0 0 0 0 0 0 0";
+    let smallest = |sram, words, rest| {
+        let banks = format!("{words} 0 0 {words} 1 0");
+        format!("smallest 128 5 128 {device} {banks} {sram} 0 0 {banks} {rest}")
+    };
+    let step = "16 0 1 8 1 6 16 0 0";
+    check_lines(&[
+        smallest(16_384, 544_768, step),
+        smallest(1_000_000, 544_768, step),
+        smallest(0, 1_000_000, step),
+        smallest(0, 544_768, "8000000 0 0 6 8000000 0 0"),
+        smallest(0, 544_768, "8000001 0 0 6 8000001 7 0"),
+        smallest(0, 544_768, "16 0 1 8 1 6 8000000 0 0"),
+    ]);
 }
 
 #[test]

@@ -9,6 +9,7 @@ mod rules;
 mod run;
 mod script;
 mod sheet;
+mod smallest;
 mod updates;
 mod walk;
 
@@ -65,6 +66,7 @@ const CALLS: &[(&str, Call)] = &[
     ("compare_reason", rules::compare_reason),
     ("write_script", script::write_script),
     ("reach", reach::reach),
+    ("smallest", smallest::smallest),
     // Lists of calls.
     ("walk", walk::walk),
     ("run", run::run),
