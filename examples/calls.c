@@ -245,6 +245,27 @@ static void write_script_call(yohrundel_device d)
     expect(memcmp(second, image, sizeof image) == 0, "the new bank after the play");
 }
 
+/* Of the script, whose last step is declined by 6, that step is enough; no record is declined by 7. Scratch banks hold the banks' words. */
+static void smallest_calls(yohrundel_device d)
+{
+    uint32_t first[WORDS], second[WORDS];
+    uint8_t result[sizeof SCRIPT] = {0};
+    static const uint8_t zeros[sizeof SCRIPT - 8];
+    memcpy(first, one, sizeof one);
+    memcpy(second, two, sizeof two);
+    yohrundel_smallest_answer smallest = yohrundel_smallest(
+        GEOMETRY, d, one, WORDS, two, WORDS, NULL, 0, first, WORDS, second, WORDS, SCRIPT, sizeof SCRIPT, 6, result, sizeof result);
+    expect(memcmp(result, SCRIPT + 64, 8) == 0 && memcmp(result + 8, zeros, sizeof zeros) == 0, "the record that is left");
+    printf("smallest %" PRIu32 " %" PRIu32 " 1 0 %d 0\n", smallest.decline, smallest.records, result[0]);
+
+    memset(first, 0, sizeof first);
+    memset(second, 0, sizeof second);
+    smallest = yohrundel_smallest(
+        GEOMETRY, d, one, WORDS, two, WORDS, NULL, 0, first, WORDS, second, WORDS, SCRIPT, sizeof SCRIPT, 7, result, sizeof result);
+    expect(smallest.decline == YOHRUNDEL_DECLINE_NOT_SHOWN && smallest.records == 0 && result[0] == 1, "a number that is not shown");
+    expect(memcmp(first, one, sizeof one) == 0 && memcmp(second, two, sizeof two) == 0, "the scratch banks afterwards");
+}
+
 static void script_calls(yohrundel_device d)
 {
     const yohrundel_play_length_answer length =
@@ -274,6 +295,7 @@ int main(void)
     compare_calls();
     lanes_calls();
     reach_calls();
+    smallest_calls(d);
     sheet_call(d);
     write_script_call(d);
     script_calls(d);

@@ -4,6 +4,7 @@ use model::cases::answer_line;
 use model::device::{Device, BFSWAP, NVMCON, PFSWAP};
 use model::flash::reset;
 use model::geometry::Banks;
+use model::list::List;
 use model::script::play;
 use model::sheet::page_sheet;
 use model::store::start_up;
@@ -151,6 +152,20 @@ fn script(banks: &Banks) -> String {
     text
 }
 
+/// Which record of a script shows 6, with scratch banks as the banks are.
+fn smallest(script: &[u8]) -> String {
+    let mut numbers = Vec::new();
+    List::from_bytes(script).put(&mut numbers);
+    let script: Vec<String> = numbers.iter().map(u32::to_string).collect();
+    let script = script.join(" ");
+    format!("smallest 1 1 1 {IDLE} {BANKS} 0 0 0 {BANKS} {script} 6 72 0 0")
+}
+
+fn worked_example() -> Vec<u8> {
+    let path = concat!(env!("CARGO_MANIFEST_DIR"), "/../crates/play/stdin");
+    std::fs::read(path).unwrap()
+}
+
 #[test]
 fn calls() {
     let stored_address = IDLE.replacen("0 0 0", "0 0 486539392", 1);
@@ -170,6 +185,7 @@ fn calls() {
         String::from("reach 1 1 1 64 0 0 64 0 1 32 1"),
         String::from("reach 1 1 1 64 0 0 64 0 2 28 1 32 1"),
         String::from("reach 1 1 1 64 0 0 64 0 1 28 1"),
+        smallest(&worked_example()),
     ];
     let mut text = String::new();
     for case in &cases {
@@ -184,7 +200,6 @@ fn calls() {
     };
     text += &sheet(&banks);
     text += &script(&banks);
-    let worked_example = concat!(env!("CARGO_MANIFEST_DIR"), "/../crates/play/stdin");
-    text += &play(&std::fs::read(worked_example).unwrap());
+    text += &play(&worked_example());
     assert_eq!(text, stored("calls.out"));
 }
