@@ -5,8 +5,8 @@ use std::os::unix::ffi::OsStrExt;
 
 use crate::run::{file, run};
 
-const COMMANDS: [&str; 8] = [
-    "play", "script", "update", "cut", "reach", "plan", "lanes", "sheet",
+const COMMANDS: [&str; 9] = [
+    "play", "script", "smallest", "update", "cut", "reach", "plan", "lanes", "sheet",
 ];
 
 #[test]
@@ -155,6 +155,26 @@ fn options_of_a_play_that_are_not_understood() {
 }
 
 #[test]
+fn arguments_of_a_smallest_script_that_are_not_understood() {
+    wrong("smallest", "FILE is missing");
+    wrong("smallest -", "NUMBER is missing");
+    for number in ["", "x", "4294967296", "0x6"] {
+        let reason = format!("NUMBER is {number:?}, not a number from 0 to 4294967295");
+        wrong(&format!("smallest - {number}"), &reason);
+    }
+    wrong("smallest - -6", "there is no option \"-6\"");
+    wrong("smallest - 6 6", "\"6\" is one argument too many");
+    wrong("smallest - 6 -o", "the value of -o is missing");
+    wrong("smallest - 6 --restart", "there is no option \"--restart\"");
+    wrong("smallest - 6 --image -", "there is no option \"--image\"");
+    wrong("smallest - 6 --bank1 - --bank2 -", "banks need --sizes");
+    let both = "--bank1 and --bank2 go together";
+    wrong("smallest - 6 --sizes 1,1,1 --bank2 -", both);
+    let reason = "the value of --sizes is \"1\", not three numbers with commas between";
+    wrong("smallest - 6 --sizes 1", reason);
+}
+
+#[test]
 fn arguments_of_a_cut_that_are_not_understood() {
     wrong("cut 1 1 1", "PLACE is missing");
     wrong("cut 1 1 1 0", "KIND is missing");
@@ -228,6 +248,7 @@ fn declined_arguments() {
         declined(&format!("script {geometry}"), reason);
         let sizes = geometry.replace(' ', ",");
         declined(&format!("play - --sizes {sizes}"), reason);
+        declined(&format!("smallest - 6 --sizes {sizes}"), reason);
     }
     let reason = "13: the place exceeds the total: PLACE is 253, the total 252";
     declined("cut 1 1 1 253 0", reason);
@@ -276,6 +297,8 @@ fn files_that_cannot_be_read() {
             let reason = format!("{command}: {reason}");
             assert_eq!(run(&[command, "1", "1", "1", path]).reason(3), reason);
         }
+        let ran = run(&["smallest", path, "6"]);
+        assert_eq!(ran.reason(3), format!("smallest: {reason}"));
         let ran = run(&["reach", "1", "1", "1", path, "-"]);
         assert_eq!(ran.reason(3), format!("reach: {reason}"));
         for option in ["--list", "--make"] {

@@ -13,6 +13,7 @@ mod reads;
 mod run;
 mod scripts;
 mod sheet;
+mod smallest;
 mod terminal;
 mod texts;
 mod tries;

@@ -5,6 +5,7 @@ use model::flash::{flash_read, reset};
 use model::geometry::{Bank, Banks, Geometry, Kind, Side};
 use model::script::{play_records, Record};
 use model::sequence::{new_quad, Reason};
+use model::smallest::{smallest, Bench};
 use model::store::{cut_start_up, start_up, start_up_stores};
 use model::update::{turn, update_start};
 use model::write_script::{script_bytes, write_script};
@@ -90,6 +91,22 @@ impl Sign {
         let [one, two] = &mut self.banks;
         let mut banks = Banks { one, two };
         play_records(self.numbers, &mut self.device, &mut banks, &[], records)
+    }
+
+    /// The smallest script that shows a number, or why it is refused.
+    pub fn smallest(&self, script: &[u8], number: u32) -> Answer<Vec<u8>> {
+        let bench = Bench {
+            numbers: self.numbers,
+            device: self.device,
+            banks: [&self.banks[0], &self.banks[1]],
+            sram: &[],
+        };
+        let ([mut one, mut two], mut result) = (self.banks.clone(), script.to_vec());
+        let (one, two) = (&mut one, &mut two);
+        let mut scratch = Banks { one, two };
+        let records = smallest(&bench, &mut scratch, script, number, &mut result)?;
+        result.truncate(8 * records as usize);
+        Ok(result)
     }
 
     /// The update as a script, or why it is refused.

@@ -41,6 +41,12 @@ fn no_bytes_for_a_terminal() {
         let line = format!("yohrundel: script: {reason}; try yohrundel script --help\r\n");
         assert_eq!((ran.status, ran.out), (Some(2), line.into_bytes()));
     }
+    let path = file("terminal-smallest", SCRIPT);
+    let smallest = format!("{PROGRAM} smallest {} 6", path.display());
+    let ran = on_a_terminal(&format!("{smallest} -o -")).expect("a terminal");
+    assert_eq!(ran.status, Some(2));
+    let printed = on_a_terminal(&smallest).expect("a terminal").printed();
+    assert!(printed.ends_with("\r\nstep  # record 8\r\n"));
     let path = file("terminal-list", &SCRIPT[..8]);
     let list = format!("{PROGRAM} script --list {}", path.display());
     let printed = on_a_terminal(&list).expect("a terminal").printed();

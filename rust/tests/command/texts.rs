@@ -36,7 +36,7 @@ fn made(text: &[u8]) -> Ran {
 }
 
 /// The text of records as the model reads them.
-fn text(records: &[Record]) -> String {
+pub fn text(records: &[Record]) -> String {
     let line = |record: &Record| match *record {
         Record::Store {
             register,

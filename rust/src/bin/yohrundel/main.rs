@@ -20,6 +20,7 @@ mod script;
 mod sheet;
 mod sign;
 mod sign_files;
+mod smallest;
 mod times;
 mod torn;
 mod update;
@@ -37,6 +38,7 @@ use failure::{Answer, Failure};
 const COMMANDS: &[Command] = &[
     play::COMMAND,
     script::COMMAND,
+    smallest::COMMAND,
     update::COMMAND,
     cut::COMMAND,
     reach::COMMAND,

@@ -10,10 +10,16 @@ use crate::files;
 pub struct Output<'a>(Option<&'a OsStr>);
 
 impl<'a> Output<'a> {
-    /// The file of -o; `-` is standard output.
+    /// What -o says, or else standard output.
     pub fn take(arguments: &mut Arguments<'a>) -> Result<Output<'a>, Failure> {
+        let given = Output::take_given(arguments)?;
+        Ok(given.unwrap_or(Output(None)))
+    }
+
+    /// The file of -o, where it is given; `-` is standard output.
+    pub fn take_given(arguments: &mut Arguments<'a>) -> Result<Option<Output<'a>>, Failure> {
         let path = arguments.value("-o")?;
-        Ok(Output(path.filter(|path| *path != "-")))
+        Ok(path.map(|path| Output(Some(path).filter(|path| *path != "-"))))
     }
 
     /// Bytes that are no text do not go to a terminal.

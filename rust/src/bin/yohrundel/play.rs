@@ -7,14 +7,14 @@ use std::io::{self, IsTerminal};
 use yohrundel::reset_kind::POWER_ON;
 use yohrundel::{Decline, Geometry};
 
-use crate::arguments::{formed, Arguments};
+use crate::arguments::Arguments;
 use crate::command::Command;
 use crate::failure::{Answer, Failure};
 use crate::files;
 use crate::picture::{legend, picture};
 use crate::records::RECORD;
 use crate::sign::Sign;
-use crate::sign_files::BankFiles;
+use crate::sign_files::{take_sizes, BankFiles};
 use crate::wording::runs;
 
 pub const COMMAND: Command = Command {
@@ -77,23 +77,6 @@ impl<'a> Options<'a> {
             Some(geometry) => Ok((self.banks.sign(geometry, self.image)?, usize::MAX)),
             None => Ok((Sign::bench()?, LONGEST)),
         }
-    }
-}
-
-fn take_sizes(arguments: &mut Arguments) -> Result<Option<Geometry>, Failure> {
-    let Some(value) = arguments.value("--sizes")? else {
-        return Ok(None);
-    };
-    let (name, words) = ("the value of --sizes", "three numbers with commas between");
-    formed(value, name, words, read_sizes).map(Some)
-}
-
-/// Q, B and P, which the library judges.
-fn read_sizes(text: &str) -> Option<Geometry> {
-    let numbers: Result<Vec<u32>, _> = text.split(',').map(str::parse).collect();
-    match numbers.ok()?[..] {
-        [q, b, p] => Some(Geometry { q, b, p }),
-        _ => None,
     }
 }
 

@@ -2,12 +2,13 @@
 
 use yohrundel::reset_kind::POWER_ON;
 use yohrundel::{
-    cut_start_up, flash_read, lower_bank, play, play_length, reset, start_up, start_up_stores,
-    step, turn_lent, update_start, write_script, Bank, Decline, Device, Geometry, Reason,
-    TurnOutcome,
+    cut_start_up, flash_read, lower_bank, play, play_length, reset, smallest, start_up,
+    start_up_stores, step, turn_lent, update_start, write_script, Bank, Bench, Decline, Device,
+    Geometry, Reason, TurnOutcome,
 };
 
 use crate::progress::Progress;
+use crate::records::RECORD;
 
 /// T = 1 and what the update makes of it.
 const OLD_QUAD: [u32; 4] = sequence_quad(1);
@@ -144,6 +145,23 @@ impl Sign {
         let played = play(geometry, device, one, two, &[], script, &mut output)?;
         self.device = played.device;
         Ok(output)
+    }
+
+    /// The smallest script that shows a number, of a script that is played without SRAM. It changes nothing of the sign.
+    pub fn smallest(&self, script: &[u8], number: u32) -> Result<Vec<u8>, Decline> {
+        let [one, two] = &self.banks;
+        let bench = Bench {
+            geometry: self.geometry,
+            device: self.device,
+            one,
+            two,
+            sram: &[],
+        };
+        let ([mut first, mut second], mut result) = (self.banks.clone(), vec![0; script.len()]);
+        let scratch = [&mut first[..], &mut second];
+        let records = smallest(bench, scratch, script, number, &mut result)?;
+        result.truncate(RECORD * records as usize);
+        Ok(result)
     }
 
     /// The total of the update's actions, where it is accepted.

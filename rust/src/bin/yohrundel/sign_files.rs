@@ -1,13 +1,31 @@
-//! The files that give a sign its banks and the image of its update.
+//! The sizes of a sign as an option, and the files that give it its banks and the image of its update.
 
 use std::ffi::OsStr;
 
 use yohrundel::Geometry;
 
-use crate::arguments::Arguments;
+use crate::arguments::{formed, Arguments};
 use crate::failure::Failure;
 use crate::files;
 use crate::sign::{made_up_image, Sign};
+
+/// What the option --sizes says.
+pub fn take_sizes(arguments: &mut Arguments) -> Result<Option<Geometry>, Failure> {
+    let Some(value) = arguments.value("--sizes")? else {
+        return Ok(None);
+    };
+    let (name, words) = ("the value of --sizes", "three numbers with commas between");
+    formed(value, name, words, read_sizes).map(Some)
+}
+
+/// Q, B and P, which the library judges.
+fn read_sizes(text: &str) -> Option<Geometry> {
+    let numbers: Result<Vec<u32>, _> = text.split(',').map(str::parse).collect();
+    match numbers.ok()?[..] {
+        [q, b, p] => Some(Geometry { q, b, p }),
+        _ => None,
+    }
+}
 
 /// What the options --bank1 and --bank2 name.
 pub struct BankFiles<'a>(Option<[&'a OsStr; 2]>);
