@@ -11,6 +11,7 @@ mod reads;
 mod rounds;
 mod scripts;
 mod sheets;
+mod smallest;
 mod turns;
 mod updates;
 
@@ -26,4 +27,5 @@ fn main() {
     sheets::beside_the_model();
     reads::beside_the_model();
     reaches::beside_a_plain_loop();
+    smallest::beside_the_model();
 }
