@@ -20,6 +20,7 @@ use Rattle.register_access.specs.Store.{hasFormOf, mayStoreOf, storeDeclineOf, 
 use Rattle.flash.specs.Step.{stepDeclineOf, stepOf}
 use Rattle.script_format.specs.Records.{Bytes, valueOf, recordOf, isStoreOf, isStepOf, isRecordOf, isScriptOf}
 use Rattle.script_record.specs.Record.{recordAfterOf}
+use Rattle.script_smallest.specs.Smallest.{answerOf}
 use Rattle.script_smallest.specs.SmallestScripts.{Playable, Example}
 
 abbrev sign : Geometry
@@ -53,57 +54,37 @@ plays : (d : Device) (kind register form : ℕ) → possibleOf sign d ≡ true �
 unfolding lentDeclineUpTo inRangeUpTo listedOf lengthsFitOf
 plays d kind register form possible script = record { lent = refl; buffer = refl; device = possible; script = script; few = omega arith }
 
+-- so it is an example of what it answers
+example : (number : ℕ) (d : Device) (kind register form : ℕ) → possibleOf sign d ≡ true → isScriptOf (record-of kind register form) ≡ true
+    → kind < 256 → register < 256 → form < 256 → answerOf sign [] (state d bank bank) (record-of kind register form) 0 ≡ number → Example number
+example number d kind register form possible script a b c answers =
+    record {
+      g = sign;
+      sram = [];
+      s = state d bank bank;
+      x = record-of kind register form;
+      one = bank;
+      two = bank;
+      result = record-of 0 0 0;
+      playable = plays d kind register form possible script;
+      bytes = record-bytes kind register form a b c;
+      gives = record { at = 0; below = omega arith; answers = answers };
+    }
+
 -- NVMKEY with form 1
 pub four : Example 4
 unfolding possibleOf implementedOf registerOf launchedFitsOf restingOf nothingLaunchedOf isScriptOf isRecordOf recordOf isStoreOf recordAfterOf storeOf
     storeDeclineOf commonDeclineOf lentDeclineUpTo inRangeUpTo listedOf lengthsFitOf hasFormOf
-four =
-    record {
-      g = sign;
-      sram = [];
-      s = state powerOn bank bank;
-      x = record-of 0 1 1;
-      one = bank;
-      two = bank;
-      result = record-of 0 0 0;
-      playable = plays powerOn 0 1 1 refl refl;
-      bytes = record-bytes 0 1 1 (omega arith) (omega arith) (omega arith);
-      gives = record { at = 0; below = omega arith; answers = refl };
-    }
+four = example 4 powerOn 0 1 1 refl refl (omega arith) (omega arith) (omega arith) refl
 
 -- NVMCON while the upper region is erased
 pub five : Example 5
 unfolding possibleOf implementedOf registerOf launchedFitsOf runningOf beginsAtOf regionBeginsOf anyProtectedOf programProtectedOf lengthOf isScriptOf
     isRecordOf recordOf isStoreOf recordAfterOf storeOf storeDeclineOf commonDeclineOf lentDeclineUpTo inRangeUpTo listedOf lengthsFitOf hasFormOf mayStoreOf
-five =
-    let running = withCon powerOn 0xE006 0 0 in
-    record {
-      g = sign;
-      sram = [];
-      s = state running bank bank;
-      x = record-of 0 0 0;
-      one = bank;
-      two = bank;
-      result = record-of 0 0 0;
-      playable = plays running 0 0 0 refl refl;
-      bytes = record-bytes 0 0 0 (omega arith) (omega arith) (omega arith);
-      gives = record { at = 0; below = omega arith; answers = refl };
-    }
+five = example 5 (withCon powerOn 0xE006 0 0) 0 0 0 refl refl (omega arith) (omega arith) (omega arith) refl
 
 -- a step at rest
 pub six : Example 6
 unfolding possibleOf implementedOf registerOf launchedFitsOf restingOf nothingLaunchedOf isScriptOf isRecordOf recordOf valueOf isStepOf recordAfterOf stepOf
     stepDeclineOf commonDeclineOf lentDeclineUpTo inRangeUpTo listedOf lengthsFitOf
-six =
-    record {
-      g = sign;
-      sram = [];
-      s = state powerOn bank bank;
-      x = record-of 1 0 0;
-      one = bank;
-      two = bank;
-      result = record-of 0 0 0;
-      playable = plays powerOn 1 0 0 refl refl;
-      bytes = record-bytes 1 0 0 (omega arith) (omega arith) (omega arith);
-      gives = record { at = 0; below = omega arith; answers = refl };
-    }
+six = example 6 powerOn 1 0 0 refl refl (omega arith) (omega arith) (omega arith) refl

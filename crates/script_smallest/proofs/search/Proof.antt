@@ -13,10 +13,16 @@ use Rattle.script_smallest.proofs.SearchLaws.{whole-put, not-found, fou
 use Rattle.script_smallest.proofs.search.Statement.{statement}
 use Rattle.script_smallest.proofs.search.Tie as tie
 
--- ---- the arguments, the first play, the script put into the result buffer
+-- ---- the arguments, by what is lent; the first play, the script put into the result buffer
+
+abbrev lent : tie.After-shows-without-arg2 → tie.After-slice-known
+lent c = c .before .before .before .before .before
+
+abbrev called : tie.After-slice-known → tie.Start
+called c = c .before .before .before .before
 
 abbrev entry : tie.After-shows-without → tie.Start
-entry c = c .before .before .before .before .before .before .before .before .before .before
+entry c = called (lent (c .before))
 
 abbrev played : tie.Else1 → tie.After-shows-without
 played c = c .before .before .before .before .before
@@ -29,7 +35,7 @@ shown c = c .before .before
 
 first-play-fits : tie.Need-shows-without-requires
 first-play-fits c κs =
-    let start = c .before .before .before .before .before .before .before .before .before in
+    let start = called (lent c) in
     let x = start .args .script .now in
     let n = length x / 8 in
     let rest = without-length x n (omega arith) in

@@ -15,8 +15,14 @@ use Rattle.script_smallest.proofs.smallest.Tie as tie
 
 -- ---- the arguments, the decline, the search before the banks are set
 
+abbrev lent : tie.After-unplayed-decline → tie.After-slice-known
+lent c = c .before .before .before .before
+
+abbrev called : tie.After-slice-known → tie.Start
+called c = c .before .before .before .before
+
 abbrev entry : tie.After-unplayed-decline → tie.Start
-entry c = c .before .before .before .before .before .before .before .before
+entry c = called (lent c)
 
 abbrev judged : tie.Else1 → tie.After-unplayed-decline
 judged c = c .before .before
@@ -24,8 +30,11 @@ judged c = c .before .before
 abbrev went : tie.After-search → tie.Else1
 went c = c .before .before .before .before
 
-abbrev searched-before : tie.After-set-banks → tie.After-search
-searched-before c = c .before .before .before .before .before .before .before .before .before
+abbrev result-back : tie.After-set-banks-arg2 → tie.After-result
+result-back c = c .before .before .before
+
+abbrev ended : tie.After-result → tie.After-search
+ended c = c .before .before .before .before .before
 
 declined : tie.Need-returns
 unfolding smallestOf
@@ -46,13 +55,13 @@ searchable c κs = let o = opens (c .before .before .before) in (o .first, (o .o
 
 banks-fit : tie.Need-set-banks-requires
 banks-fit c κs =
-    let o = opens (went (c .before .before .before .before .before .before .before .before)) in
+    let o = opens (went (ended (result-back c))) in
     (omega (arith, o .first), omega (arith, o .other))
 
 found : tie.Need-returns-2
 found c =
     let set = c .before .before .before .before in
-    let search = searched-before set in
+    let search = ended (result-back (set .before)) in
     let a = entry (judged (went search)) .args in
     let (first, other) = set .set-banks .ensures in
     searched (a .g) (a .sram .now) (state (a .d) (a .one .now) (a .two .now)) (a .number) (a .script .now) (a .result .now)
