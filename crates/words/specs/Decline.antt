@@ -6,7 +6,7 @@ use Rattle.words.specs.Word.{pick}
 use Rattle.words.specs.declared.decline.Decline.{Decline}
 use Rattle.words.specs.declared.decline.Decline.the-variants.{Accepted, Geometry, Length, Device, Register, Running, Idle, ResetKind, Address}
 use Rattle.words.specs.declared.decline.Decline.the-variants.{Busy, Sequence, LastSequence, Protection, Place, Script, Hours, NoWait}
-use Rattle.words.specs.declared.decline.Decline.the-variants.{ScriptBuffer, SheetBuffer, Records, NotShown, Lanes}
+use Rattle.words.specs.declared.decline.Decline.the-variants.{ScriptBuffer, SheetBuffer, Row, Records, NotShown, Lanes}
 
 abbrev pub numberOf : Decline → ℕ
 numberOf Accepted = 0
@@ -28,6 +28,7 @@ numberOf Hours = 15
 numberOf NoWait = 16
 numberOf ScriptBuffer = 17
 numberOf SheetBuffer = 18
+numberOf Row = 19
 numberOf Records = 20
 numberOf NotShown = 21
 numberOf Lanes = 22

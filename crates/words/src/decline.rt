@@ -41,6 +41,8 @@ pub enum Decline {
     ScriptBuffer,
     // 18: the buffer is shorter than the sheet.
     SheetBuffer,
+    // 19: a row, its queue or its store cannot be served.
+    Row,
     // 20: more than 64 records.
     Records,
     // 21: the play never gives the number.
@@ -74,6 +76,7 @@ impl Decline {
             Decline::NoWait => 16,
             Decline::ScriptBuffer => 17,
             Decline::SheetBuffer => 18,
+            Decline::Row => 19,
             Decline::Records => 20,
             Decline::NotShown => 21,
             Decline::Lanes => 22,

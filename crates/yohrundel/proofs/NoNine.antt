@@ -1,6 +1,6 @@
 -- Each call's answer is one of those that its definition names, and 9 is none of them. Assumes nothing.
 use mathlib.Core.Bool.{_&&_}
-use mathlib.Core.Path.{refl}
+use mathlib.Core.Path.{_≡_, refl}
 use mathlib.Core.List.{List, [], _∷_}
 use Prim.Native.Nat.{ℕ, _%_}
 use native.Mathlib.Omega.{arith}
@@ -43,6 +43,12 @@ use Rattle.script_write.specs.Script.{scriptBytesOf, writeScriptDeclineOf, Writ
 use Rattle.script_smallest.specs.Smallest.{showsOf, unplayedDeclineOf, Smallest, searchedOf, smallestOf}
 use Rattle.script_smallest.proofs.AnswerLaws.{one-of-six}
 use Rattle.reach.specs.Reach.{reachOf}
+use Rattle.row_signs.specs.declared.sign.Sign.{Sign}
+use Rattle.row_signs.specs.declared.queue.Queue.{Queue}
+use Rattle.row_judge.specs.Judge.{rowStandsOf, rowDeclineOf}
+use Rattle.row_choice.specs.Choice.{servedOf}
+use Rattle.row_schedule.specs.Schedule.{knownOf, Scheduling, servingOf, scheduleRowOf}
+use Rattle.yohrundel_row.specs.Schedule.{scheduleOf}
 use Rattle.yohrundel.specs.NoNine.{Not9, NoNine}
 
 -- the first of two declines
@@ -180,6 +186,23 @@ reach : (g : Geometry) (image other : List ℕ) → Not9 (reachOf g image other 
 unfolding reachOf
 reach g image other = lent g (length image ∷ length other ∷ []) 0
 
+row-decline : (g : Geometry) (k : ℕ) (signs : List Sign) (n : ℕ) (queue : Queue) (last store image sram : ℕ)
+    → Not9 (rowDeclineOf g k signs n queue last store image sram)
+unfolding rowDeclineOf
+row-decline g k signs n queue last store image sram =
+    first (lentDeclineOf g (image ∷ []) sram) _ (lent g (image ∷ []) sram)
+    (pick-both Not9 (rowStandsOf g k signs n queue last store) (λ e. omega arith) (λ e. omega arith))
+
+schedule : (g : Geometry) (k : ℕ) (signs : List Sign) (queue : Queue) (last : ℕ) (store image sram : List ℕ)
+    → scheduleOf g k signs queue last store image sram .answer .decline ≡ 9 → ⊥
+unfolding scheduleRowOf servingOf
+schedule g k signs queue last store image sram =
+    let n : ℕ = length signs in
+    pick-both (λ (d : Scheduling). d .answer .decline ≡ 9 → ⊥) (acceptedOf (rowDeclineOf g k signs n queue last (length store) (length image) (length sram)))
+    (pick-both (λ (d : Scheduling). d .answer .decline ≡ 9 → ⊥) (ltb (servedOf (knownOf g k signs n queue last store image sram)) n) (λ e. omega arith)
+    (λ e. omega arith))
+    (row-decline g k signs n queue last (length store) (length image) (length sram))
+
 pub no-nine : NoNine
 no-nine =
     record {
@@ -201,4 +224,5 @@ no-nine =
       write-script = write-script;
       smallest = smallest;
       reach = reach;
+      schedule = schedule;
     }

@@ -22,6 +22,9 @@ use Rattle.lanes.specs.Lanes.{lanesDeclineOf}
 use Rattle.script_write.specs.Script.{writeScriptOf}
 use Rattle.script_smallest.specs.Smallest.{smallestOf}
 use Rattle.reach.specs.Reach.{reachOf}
+use Rattle.row_signs.specs.declared.sign.Sign.{Sign}
+use Rattle.row_signs.specs.declared.queue.Queue.{Queue}
+use Rattle.yohrundel_row.specs.Schedule.{scheduleOf}
 
 abbrev pub Not9 : Decline → Type 0
 Not9 d = numberOf d ≡ 9 → ⊥
@@ -47,3 +50,5 @@ pub record NoNine : Type 0 where
   pub smallest : (g : Geometry) (sram : List ℕ) (s : State) (script : List ℕ) (number : ℕ) (one two result : List ℕ)
       → Not9 (smallestOf g sram s script number one two result .decline)
   pub reach : (g : Geometry) (image other : List ℕ) → Not9 (reachOf g image other .decline)
+  pub schedule : (g : Geometry) (k : ℕ) (signs : List Sign) (queue : Queue) (last : ℕ) (store image sram : List ℕ)
+      → scheduleOf g k signs queue last store image sram .answer .decline ≡ 9 → ⊥

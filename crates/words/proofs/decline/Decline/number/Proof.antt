@@ -60,19 +60,23 @@ script-buffer c = rw (c .enum-told18 .given .1)
 sheet-buffer : tie.Need-returns-19
 sheet-buffer c = rw (c .enum-told19 .given .1)
 
-records : tie.Need-returns-20
-records c = rw (c .enum-told20 .given .1)
+row : tie.Need-returns-20
+row c = rw (c .enum-told20 .given .1)
 
-not-shown : tie.Need-returns-21
-not-shown c = rw (c .enum-told21 .given .1)
+records : tie.Need-returns-21
+records c = rw (c .enum-told21 .given .1)
 
-lanes : tie.Need-returns-22
-lanes c = rw (c .enum-told22 .given .1)
+not-shown : tie.Need-returns-22
+not-shown c = rw (c .enum-told22 .given .1)
+
+lanes : tie.Need-returns-23
+lanes c = rw (c .enum-told23 .given .1)
 
 pub number-spec : {M : Type 1} → statement M
 number-spec =
     tie.close
     (tie.spec
+    (λ c. search needs)
     (λ c. search needs)
     (λ c. search needs)
     (λ c. search needs)
@@ -114,6 +118,7 @@ number-spec =
     no-wait
     script-buffer
     sheet-buffer
+    row
     records
     not-shown
     lanes)

@@ -1,0 +1,7 @@
+pub mod Row
+pub mod Choosing
+pub mod Supply
+pub mod RowCut
+pub mod Progress
+pub mod Rows
+pub mod TwoSigns
