@@ -2,6 +2,7 @@
 
 mod moves;
 mod requests;
+mod rows;
 mod runs;
 mod shapes;
 mod smallest;
@@ -13,6 +14,7 @@ use crate::device::{possible, protected, Device, Operands, REGISTERS};
 use crate::flash::{flash_read, lower_bank, page, reset, step};
 use crate::geometry::{Banks, Geometry, Kind, Side};
 use crate::list::List;
+use crate::schedule::Row;
 use crate::sequence::{compare, valid};
 use crate::store::{register_read, start_up, store};
 use crate::update::{turn, update_start};
@@ -24,6 +26,7 @@ pub struct Case {
     pub call: Call,
     pub geometry: [u32; 3],
     pub device: Device,
+    pub row: Row,
     pub lists: Vec<List>,
     pub numbers: Vec<u32>,
 }
@@ -34,6 +37,7 @@ impl Case {
             call,
             geometry: [0; 3],
             device: Device::reset_values(),
+            row: Row::default(),
             lists: Vec::new(),
             numbers: Vec::new(),
         }
@@ -65,11 +69,15 @@ impl Case {
         for _ in 0..shape.numbers {
             case.numbers.push(numbers.next()?);
         }
+        if shape.row {
+            case.row = rows::take_row(numbers)?;
+        }
         case.take_lists(shape, shape.behind, numbers)?;
         match shape.rest {
             Rest::Nothing => {}
             Rest::Pairs => case.numbers.extend(take_pairs(numbers)?),
             Rest::Moves(counts) => case.numbers.extend(moves::take_moves(counts, numbers)?),
+            Rest::Calls => rows::put_counted(&take_counted(numbers)?, &mut case.numbers),
         }
         Some(case)
     }
@@ -105,10 +113,15 @@ impl Case {
         for list in front {
             list.put(&mut numbers);
         }
-        numbers.extend(&self.numbers);
+        let (first, rest) = self.numbers.split_at(shape.numbers);
+        numbers.extend(first);
+        if shape.row {
+            rows::put_row(&self.row, &mut numbers);
+        }
         for list in behind {
             list.put(&mut numbers);
         }
+        numbers.extend(rest);
         let mut text = String::from(shape.name);
         for number in numbers {
             text.push(' ');
@@ -134,6 +147,7 @@ impl Case {
             Call::Walk => self.answer_walk(),
             Call::Run => self.answer_run()?,
             Call::Smallest => self.answer_smallest(),
+            Call::RowRun => self.answer_row_run(),
             _ => match self.answer_call() {
                 Ok(mut outputs) => {
                     outputs.insert(0, 0);
@@ -176,7 +190,8 @@ impl Case {
             | Call::LanesOut
             | Call::LanesBack
             | Call::WriteScript
-            | Call::Reach => self.answer_request(),
+            | Call::Reach
+            | Call::Schedule => self.answer_request(),
             _ => self.answer_with_banks(),
         }
     }
@@ -270,6 +285,12 @@ fn take_pairs(numbers: &mut impl Iterator<Item = u32>) -> Option<Vec<u32>> {
         taken.extend([numbers.next()?, numbers.next()?]);
     }
     Some(taken)
+}
+
+/// A count, then that many numbers; the count is not kept.
+fn take_counted(numbers: &mut impl Iterator<Item = u32>) -> Option<Vec<u32>> {
+    let count = numbers.next()?;
+    (0..count).map(|_| numbers.next()).collect()
 }
 
 fn take_device(numbers: &mut impl Iterator<Item = u32>) -> Option<Device> {

@@ -9,6 +9,7 @@ mod places;
 mod plans;
 mod reaches;
 mod record_edges;
+mod schedules;
 mod scripts;
 mod sheets;
 mod smallest;

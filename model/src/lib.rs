@@ -14,6 +14,7 @@ pub mod operation;
 pub mod plan;
 pub mod random;
 pub mod reach;
+pub mod schedule;
 pub mod script;
 pub mod sequence;
 pub mod sheet;
@@ -45,6 +46,9 @@ pub enum Refusal {
     NoWait = 16,
     ScriptBuffer = 17,
     SheetBuffer = 18,
+    /// A list length, K or last served out of range, a queue that repeats a record or oversteps the list, or overlapping or
+    /// overhanging banks.
+    Row = 19,
     Records = 20,
     NotShown = 21,
     LaneLengths = 22,

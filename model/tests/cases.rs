@@ -2,7 +2,7 @@
 
 use model::cases::answer_line;
 use model::generate::{directed, line, Cases};
-use std::collections::BTreeSet;
+use std::collections::{BTreeMap, BTreeSet};
 use std::path::{Path, PathBuf};
 
 /// Longer directed cases are not stored; the program's own test makes them.
@@ -53,7 +53,7 @@ fn every_call_and_every_decline_is_stored() {
     let requests = Cases::of_requests(1, 512).take(2000);
     for case in Cases::new(1, 512).take(8000).chain(requests) {
         // A list of calls has no answer of its own.
-        if case.call.moves().is_some() {
+        if case.call.is_list() {
             continue;
         }
         let outcome = outcome(&line(&case).unwrap());
@@ -63,14 +63,14 @@ fn every_call_and_every_decline_is_stored() {
 
 #[test]
 fn directed_cases_are_stored() {
-    for subject in directed::REQUEST_SUBJECTS.map(|subject| subject.name) {
-        let mut made = String::new();
-        for (of, case) in directed::request_cases() {
-            let line = line(&case).unwrap();
-            if of == subject && line.len() <= LONGEST {
-                made += &format!("{line}\n");
-            }
+    let mut made = BTreeMap::from(directed::REQUEST_SUBJECTS.map(|of| (of.name, String::new())));
+    for (subject, case) in directed::request_cases() {
+        let line = line(&case).unwrap();
+        if line.len() <= LONGEST {
+            *made.get_mut(subject).unwrap() += &format!("{line}\n");
         }
+    }
+    for (subject, made) in made {
         let path = folder().join(format!("directed_{subject}.txt"));
         let stored = std::fs::read_to_string(path).unwrap();
         assert!(stored == made, "{subject}");

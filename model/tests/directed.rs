@@ -5,8 +5,8 @@ use std::collections::{BTreeMap, BTreeSet};
 use model::cases::{answer_line, Call, Case};
 use model::device::{WR, WRERR};
 use model::generate::directed::{
-    cases, ordered, ordered_reaches, ordered_sheets, ordered_smallest, ordered_writes,
-    request_cases,
+    cases, ordered, ordered_reaches, ordered_schedules, ordered_sheets, ordered_smallest,
+    ordered_writes, request_cases,
 };
 use model::generate::{line, record_edges, refused_scripts};
 use model::script::play;
@@ -36,6 +36,17 @@ fn numbers(case: &Case) -> Vec<u32> {
         .collect()
 }
 
+/// Where the calls of a row ended: nobody was served, all were served, or some calls were idle or declined.
+fn row_outcome(case: &Case, numbers: &[u32]) -> &'static str {
+    let calls = numbers.chunks(3).take(case.numbers[0] as usize);
+    let served = calls.filter(|call| call[..2] == [0, 0]).count();
+    match served {
+        0 => "nobody",
+        _ if served == case.numbers[0] as usize => "all",
+        _ => "some",
+    }
+}
+
 /// A list of calls has no answer of its own. A run ends with the bank that runs; what a walk changed in the banks follows the device.
 fn list_outcome(case: &Case, numbers: &[u32]) -> String {
     let old = case.device.lower_alias_bank().number();
@@ -43,16 +54,31 @@ fn list_outcome(case: &Case, numbers: &[u32]) -> String {
         (Call::Run, 0) => "none",
         (Call::Run, bank) if bank == old => "old",
         (Call::Run, _) => "new",
+        (Call::RowRun, _) => row_outcome(case, numbers),
         _ if numbers[3 * case.numbers[0] as usize + DEVICE] > 0 => "written",
         _ => "untouched",
     };
     String::from(text)
 }
 
+/// Whom an accepted call of a row served: a waiting sign, the first after the last served, or nobody; and whether others began to wait.
+fn schedule_outcome(case: &Case, numbers: &[u32]) -> &'static str {
+    let (idle, served, waiting) = (numbers[1] == 1, numbers[2], numbers[4] as usize);
+    let queue = &case.row.queue;
+    match (idle, waiting > queue.len()) {
+        (true, true) => "idle/begin",
+        (true, false) => "idle",
+        (false, true) => "round/begin",
+        _ if queue.first() == Some(&served) => "head",
+        _ if queue.contains(&served) => "behind",
+        _ => "round",
+    }
+}
+
 /// What became of a case, in a few words.
 fn outcome(case: &Case) -> String {
     let numbers = numbers(case);
-    if case.call.moves().is_some() {
+    if case.call.is_list() {
         return list_outcome(case, &numbers);
     }
     if case.call == Call::CompareReason {
@@ -80,6 +106,7 @@ fn outcome(case: &Case) -> String {
         Call::Reset => "untouched",
         Call::Smallest if 8 * numbers[1] as usize == case.lists[5].length => "whole",
         Call::Smallest => "reduced",
+        Call::Schedule => schedule_outcome(case, &numbers),
         Call::Reach => ["action", "none", "words"][numbers[1] as usize],
         Call::Turn if numbers[1] == 1 => "done",
         Call::Turn if numbers[TURN_EVENT + 1] > 0 => "written",
@@ -167,6 +194,12 @@ const EXPECTED: &[(&str, &str, &str)] = &[
     ("reaches", "reach", "action none words 1 2"),
     ("tries", "run", "old new none"),
     ("smallest", "smallest", "whole reduced 1 2 3 14 20 21"),
+    (
+        "schedules",
+        "schedule",
+        "head behind round round/begin idle idle/begin 1 2 19",
+    ),
+    ("schedules", "rowrun", "all some nobody"),
 ];
 
 #[test]
@@ -214,6 +247,7 @@ fn the_lowest_decline_is_given() {
         ordered_writes(),
         ordered_reaches(),
         ordered_smallest(),
+        ordered_schedules(),
     ]
     .concat();
     for (lowest, case) in ordered().into_iter().chain(requests) {

@@ -15,7 +15,7 @@ fn declines(call: Call) -> &'static [u32] {
     match call {
         Call::Compare | Call::CompareReason => &[],
         Call::Possible | Call::Protected | Call::ValidBySum => &[],
-        Call::Walk | Call::Run => &[],
+        Call::Walk | Call::Run | Call::RowRun => &[],
         Call::Store => &[1, 3, 4, 5],
         Call::RegisterRead => &[1, 3, 4],
         Call::FlashRead => &[1, 2, 3, 8],
@@ -32,6 +32,7 @@ fn declines(call: Call) -> &'static [u32] {
         Call::WriteScript => &[1, 2, 3, 5, 10, 11, 12, 17],
         Call::Reach => &[1, 2],
         Call::Smallest => &[1, 2, 3, 14, 20, 21],
+        Call::Schedule => &[1, 2, 19],
     }
 }
 
@@ -105,9 +106,32 @@ fn smallest_class(case: &Case) -> String {
     format!("of {} left whole {whole}", case.numbers[0])
 }
 
+/// Where an accepted call found the sign that it served, if any, and whether others began to wait.
+fn schedule_class(case: &Case) -> String {
+    let answer = case.answer().unwrap();
+    let numbers: Vec<u32> = answer
+        .split(' ')
+        .map(|part| part.parse().unwrap())
+        .collect();
+    let (idle, served, waiting) = (numbers[1] == 1, numbers[2], numbers[4] as usize);
+    let queue = &case.row.queue;
+    match idle {
+        false if queue.contains(&served) => String::from("from the queue"),
+        _ => format!("idle {idle} begin {}", waiting > queue.len()),
+    }
+}
+
+/// Whether a list of calls begins as a row that nobody served.
+fn fresh(case: &Case) -> bool {
+    let row = &case.row;
+    let places = row.signs.iter().all(|sign| sign.place == 0);
+    places && row.queue.is_empty() && row.last as usize + 1 == row.signs.len()
+}
+
 /// Sheets of every Q, under all four mappings, of idle and running devices; plans of few and many windows; scripts for both old
 /// banks into buffers of their length and longer; images that are equal, one word apart, outside and in the sequence quad, and several;
-/// tries of both old banks that end with the old and with the new; scripts that show each number, left whole and not.
+/// tries of both old banks that end with the old and with the new; scripts that show each number, left whole and not; calls of a row
+/// that serve a waiting sign, another and none, where signs begin to wait and where none does, and lists of calls of fresh rows and others.
 #[test]
 fn requests_vary() {
     let mut seen = BTreeSet::new();
@@ -134,13 +158,23 @@ fn requests_vary() {
             Call::Smallest if accepted => {
                 seen.insert(format!("smallest {}", smallest_class(&case)));
             }
+            Call::Schedule if accepted => {
+                seen.insert(format!("schedule {}", schedule_class(&case)));
+            }
+            Call::RowRun if accepted => {
+                seen.insert(format!("calls fresh {}", fresh(&case)));
+            }
             Call::Plan => {
                 seen.insert(format!("windows {}", case.numbers[2].min(15)));
             }
             _ => {}
         }
     }
-    assert_eq!(seen.len(), 8 + 4 + 2 + 16 + 4 + 4 + 4 + 6, "{seen:?}");
+    assert_eq!(
+        seen.len(),
+        8 + 4 + 2 + 16 + 4 + 4 + 4 + 6 + 5 + 2,
+        "{seen:?}"
+    );
 }
 
 /// Running devices that were and were not loaded since their launch; impossible ones by what was launched alone.
@@ -237,7 +271,7 @@ fn every_decline_occurs() {
             .insert(first_number(&answer));
     }
     // A list of calls has no answer of its own.
-    let answered = SHAPES.iter().filter(|shape| shape.call.moves().is_none());
+    let answered = SHAPES.iter().filter(|shape| !shape.call.is_list());
     for shape in answered {
         let numbers = &seen[shape.name];
         let mut expected: BTreeSet<u32> = declines(shape.call).iter().copied().collect();

@@ -111,6 +111,38 @@ fn lines_that_are_no_case_of_a_smallest_script() {
     }
 }
 
+/// K, the last served, the queue and the records stand before the store, the image and the SRAM; the numbers K of a list of calls after them.
+#[test]
+fn lines_that_are_no_case_of_a_row() {
+    let device = "0 0 0 0 0 0 0 0 2147483648 40927 2031616 0 0 0 0 0 0 0 0";
+    let lists = "128 7 0 64 7 0 0 0 0";
+    let sign = format!("{device} 0 64 0");
+    let row = |front: &str, rest: &str| answer_line(&format!("{front} {sign} {lists}{rest}"));
+    let served = format!("0 0 0 0 0 0 {device} 1 0");
+    assert_eq!(row("schedule 1 1 1 1 0 0 1", ""), served);
+    assert_eq!(row("schedule 1 1 1 1 0 1 0 1", ""), served);
+    let left = format!("0 0 {device} 0 0");
+    assert_eq!(row("rowrun 1 1 1 0 0 1", " 0"), left);
+    let left = format!("0 0 0 19 0 0 0 0 {device} 1 0");
+    assert_eq!(row("rowrun 1 1 1 0 0 1", " 2 1 0"), left);
+    for (front, rest) in [
+        ("schedule 1 1 1 1 0 0 1", " 0"),
+        ("schedule 1 1 1 1 0 1 1", ""),
+        ("schedule 1 1 1 1 0 0 2", ""),
+        ("schedule 1 1 1 1 0 0 0", ""),
+        ("schedule 1 1 1 0 0 1", ""),
+        ("schedule 1 1 1 1 0 4294967295 1", ""),
+        ("schedule 1 1 1 1 0 0 4294967295", ""),
+        ("rowrun 1 1 1 0 0 1", ""),
+        ("rowrun 1 1 1 0 0 1", " 1"),
+        ("rowrun 1 1 1 0 0 1", " 1 1 1"),
+        ("rowrun 1 1 1 0 0 1", " 4294967295 1"),
+        ("rowrun 1 1 1 1 0 0 1", " 1 1"),
+    ] {
+        assert_eq!(row(front, rest), "?", "{front}{rest}");
+    }
+}
+
 #[test]
 fn text_after_a_bar_is_ignored() {
     assert_eq!(answer_line("compare 65535 0 | 2"), "1");

@@ -15,6 +15,7 @@ impl Case {
             Call::Plan => self.answer_plan(),
             Call::PageSheet | Call::WriteScript => self.answer_written(),
             Call::Reach => self.answer_reach(),
+            Call::Schedule => self.answer_schedule(),
             _ => self.answer_lanes(),
         }
     }

@@ -26,6 +26,8 @@ pub enum Call {
     Reach,
     Run,
     Smallest,
+    Schedule,
+    RowRun,
 }
 
 /// The inputs of a call, in the order in which a line gives them.
@@ -38,12 +40,14 @@ pub struct Shape {
     /// How many of the lists, the last ones, are lists of bytes.
     pub bytes: usize,
     pub numbers: usize,
-    /// How many of the lists, the last ones, stand behind the numbers.
+    /// Whether a row of signs follows the numbers.
+    pub row: bool,
+    /// How many of the lists, the last ones, stand behind the numbers and the row.
     pub behind: usize,
     pub rest: Rest,
 }
 
-/// What follows the numbers.
+/// What stands last.
 #[derive(Clone, Copy)]
 pub enum Rest {
     Nothing,
@@ -51,6 +55,8 @@ pub enum Rest {
     Pairs,
     /// A count and that many moves; how many numbers a move of each kind has.
     Moves(&'static [usize]),
+    /// A count and that many numbers, one for each call of a list.
+    Calls,
 }
 
 const fn shape(
@@ -69,13 +75,14 @@ const fn shape(
         lists,
         bytes: 0,
         numbers,
+        row: false,
         behind: 0,
         rest: Rest::Nothing,
     }
 }
 
 /// The calls of the base stand first, those of later requests follow.
-pub const SHAPES: [Shape; 24] = [
+pub const SHAPES: [Shape; 26] = [
     shape(Call::Compare, "compare", false, false, 0, 2),
     shape(Call::Possible, "possible", true, true, 0, 0),
     shape(Call::Protected, "protected", true, true, 0, 3),
@@ -125,6 +132,17 @@ pub const SHAPES: [Shape; 24] = [
         behind: 1,
         ..shape(Call::Smallest, "smallest", true, true, 7, 1)
     },
+    Shape {
+        row: true,
+        behind: 3,
+        ..shape(Call::Schedule, "schedule", true, false, 3, 1)
+    },
+    Shape {
+        row: true,
+        behind: 3,
+        rest: Rest::Calls,
+        ..shape(Call::RowRun, "rowrun", true, false, 3, 0)
+    },
 ];
 
 /// The moves of a walk: store, register read, step, reset, start-up, flash read.
@@ -141,7 +159,12 @@ impl Call {
         &SHAPES[self as usize]
     }
 
-    /// How many numbers a move of each kind has, where the call is a list of calls. Such a list has no answer of its own.
+    /// Whether it is a list of calls, which has no answer of its own.
+    pub fn is_list(self) -> bool {
+        matches!(self.shape().rest, Rest::Moves(_) | Rest::Calls)
+    }
+
+    /// How many numbers a move of each kind has, where the call is a list of moves.
     pub fn moves(self) -> Option<&'static [usize]> {
         match self.shape().rest {
             Rest::Moves(counts) => Some(counts),

@@ -15,6 +15,7 @@ use super::memory;
 use super::places::{self, Start};
 use super::plans::plan_case;
 use super::reaches::images;
+use super::schedules::schedule_case;
 use super::sheets::page_sheet_case;
 use super::smallest::smallest_case;
 use super::tries::run_case;
@@ -77,6 +78,7 @@ fn fill_case(random: &mut Random, geometry: &Geometry, case: &mut Case) {
         }
         Call::Run => run_case(random, geometry, case),
         Call::Smallest => smallest_case(random, geometry, case),
+        Call::Schedule | Call::RowRun => schedule_case(random, geometry, case),
         Call::ValidBySum => case.numbers = vec![memory::sequence_word(random)],
     }
 }

@@ -18,6 +18,7 @@ mod reads;
 mod reasons;
 mod resets;
 mod rows;
+mod schedules;
 mod sheets;
 mod singles;
 mod smallest;
@@ -33,6 +34,7 @@ mod writes;
 
 pub use orders::ordered;
 pub use reaches::ordered_reaches;
+pub use schedules::ordered_schedules;
 pub use sheets::ordered_sheets;
 pub use smallest::ordered_smallest;
 pub use writes::ordered_writes;
@@ -71,7 +73,7 @@ pub const SUBJECTS: [Subject; 16] = [
 ];
 
 /// Subjects of the calls that later requests added.
-pub const REQUEST_SUBJECTS: [Subject; 12] = [
+pub const REQUEST_SUBJECTS: [Subject; 13] = [
     subject("plans", plans::cases),
     subject("sheets", sheets::cases),
     subject("lanes", lanes::cases),
@@ -84,6 +86,7 @@ pub const REQUEST_SUBJECTS: [Subject; 12] = [
     subject("reaches", reaches::cases),
     subject("tries", tries::cases),
     subject("smallest", smallest::cases),
+    subject("schedules", schedules::cases),
 ];
 
 /// The cases of the base's subjects.

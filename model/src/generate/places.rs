@@ -32,6 +32,16 @@ pub fn place(random: &mut Random, geometry: &Geometry) -> u32 {
     }
 }
 
+/// A place whose action sets WR: of a page that is erased, or of a quad.
+pub fn launch_place(random: &mut Random, geometry: &Geometry) -> u32 {
+    let program = program_place(geometry);
+    let quads = (total(geometry) - program) / 13;
+    match random.below(2) {
+        0 => 12 + random.below(geometry.pages()) * erase_actions(geometry) + 6,
+        _ => program + 13 * random.below(quads) + 10,
+    }
+}
+
 /// A place whose action is a step: of a page that is erased, of a quad, or of the sequence quad, the last.
 pub fn step_place(random: &mut Random, geometry: &Geometry) -> u32 {
     let (program, last) = (program_place(geometry), total(geometry) - 2);

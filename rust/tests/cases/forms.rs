@@ -95,6 +95,26 @@ fn long_lists_of_a_smallest_script() {
     ]);
 }
 
+/// The largest banks, a store with more around them, more signs than a row has, and a queue that is longer than any.
+#[test]
+fn long_lists_of_a_row() {
+    let device = "0 0 0 0 0 0 0 0 2147483648 40927 2031616 0 0 0 0 0 0 0 0";
+    let largest = "3000000 4294967295 2 20477 4294836225 1109992 4294836225 544768 7 0 16384 0 0";
+    let signs = format!("2 {device} 0 1 544769 {device} 0 1089516 1700000");
+    let many = format!(" {device} 0 0 64").repeat(1_000);
+    let queue = " 5".repeat(100_000);
+    check_lines(&[
+        format!("schedule 128 5 128 1 1 0 {signs} {largest}"),
+        format!("schedule 128 5 128 1 1 1 1 {signs} {largest}"),
+        format!(
+            "rowrun 128 5 128 1 0 {signs} {largest} 40 {}",
+            ["1"; 40].join(" ")
+        ),
+        format!("rowrun 1 1 1 999 0 1000{many} 128 0 0 64 0 0 0 0 0 3 1 2 3"),
+        format!("rowrun 1 1 1 0 100000{queue} 1 {device} 0 0 64 128 0 0 64 0 0 0 0 0 2 1 32"),
+    ]);
+}
+
 #[test]
 fn it_takes_no_arguments() {
     let ran = Command::new(PROGRAM).arg("calls.txt").output();
