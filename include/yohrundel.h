@@ -1,9 +1,7 @@
 /*
  * Yohrundel: the Live Update flash controller and its bank updater, for programs in C and C++.
  *
- * Link libyohrundel.a, which `rt staticlib yohrundel` writes to target/staticlib/ for x86-64. One call, yohrundel_turn_lent, is in
- * libyohrundel_lent.a beside it, which `rt staticlib yohrundel_lent` writes: there the compiler makes one function of the whole turn, as
- * it does not among other calls, and that is faster.
+ * Link libyohrundel.a, which `make archive` writes to target/ for x86-64.
  * "The paper" is document 01, Live Update flash: controller and bank updater.
  *
  * A call keeps nothing from one call to the next and allocates nothing: all that it works on is handed over by value or lent. Calls on
@@ -13,17 +11,17 @@
  *
  *   Every number, every length and every content of the lent memory is taken. A call does its work, or declines it by a number of
  *   enum yohrundel_decline, the lowest that applies. A declined call changes nothing: the device in its answer is the one handed over,
- *   the banks, the buffer and the target keep their contents. There is one exception: where yohrundel_smallest is declined by 21, its
- *   scratch banks hold what the banks hold.
+ *   the banks, the store and the list of signs, the buffer and the target keep their contents. There is one exception: where
+ *   yohrundel_smallest is declined by 21, its scratch banks hold what the banks hold.
  *
  * Mistakes that no call can see
  *
- *   - a pointer that does not point to as many words, bytes or windows as the count beside it says, or is not aligned for them;
+ *   - a pointer that does not point to as many words, bytes, windows or signs as the count beside it says, or is not aligned for them;
  *     a null pointer goes with the count 0 only, and the device of yohrundel_turn_lent is never null;
  *   - lent memory that overlaps other lent memory where one of the two is written: the two banks, the device of yohrundel_turn_lent,
  *     the buffers of yohrundel_play, yohrundel_page_sheet and yohrundel_write_script, the scratch banks and the result of
- *     yohrundel_smallest and the target of byte lanes are; where both are only read, as the two banks of yohrundel_smallest, they may
- *     overlap;
+ *     yohrundel_smallest, the list of signs and the store of yohrundel_schedule and the target of byte lanes are; where both are only
+ *     read, as the two banks of yohrundel_smallest, they may overlap; that banks overlap inside the store yohrundel_schedule sees;
  *   - lent memory that another thread changes during the call.
  *
  * Sizes
@@ -60,6 +58,9 @@ extern "C" {
 
 /* The most records of a script of which yohrundel_smallest finds the smallest that shows a number. */
 #define YOHRUNDEL_MOST_RECORDS 64
+
+/* The most signs of a row, and the most flash operations that its supply may bear together. */
+#define YOHRUNDEL_MOST_SIGNS 32
 
 /* The most windows of a plan. */
 #define YOHRUNDEL_MOST_WINDOWS 14
@@ -121,6 +122,11 @@ enum yohrundel_decline {
     YOHRUNDEL_DECLINE_SCRIPT_BUFFER = 17,
     /* A buffer that is shorter than the page sheet. */
     YOHRUNDEL_DECLINE_SHEET_BUFFER = 18,
+    /*
+     * A row's list length, K or last served out of range, a queue that repeats a record or oversteps the list, or overlapping or
+     * overhanging banks.
+     */
+    YOHRUNDEL_DECLINE_ROW = 19,
     /* A script of more than 64 records, of which the smallest that shows a number is asked. */
     YOHRUNDEL_DECLINE_RECORDS = 20,
     /* The play of that script never gives the number. */
@@ -345,6 +351,39 @@ typedef struct yohrundel_turn_answer {
     yohrundel_turn_outcome outcome;
 } yohrundel_turn_answer;
 
+/* A sign of a row: its device, its place in the update, and where its two banks start in the store. */
+typedef struct yohrundel_sign {
+    yohrundel_device device;
+    /* 0 at an update start; each call that serves the sign sets the next one. */
+    uint32_t place;
+    /* The index in the store of the first word of bank 1, and of bank 2. */
+    uint32_t one;
+    uint32_t two;
+} yohrundel_sign;
+
+/* The signs that wait, by their record numbers, which are their indexes in the list. */
+typedef struct yohrundel_queue {
+    /* How many wait. */
+    uint32_t count;
+    /* The longest waiting first. What stands past the count is not read; a call that is not declined leaves 0 there. */
+    uint32_t numbers[YOHRUNDEL_MOST_SIGNS];
+} yohrundel_queue;
+
+/* The answer to a call for a row. */
+typedef struct yohrundel_schedule_answer {
+    uint32_t decline;
+    /* Whether there was nobody to serve; false where declined. */
+    bool idle;
+    /* The record number of the sign that did its turn; 0 where idle and where declined. */
+    uint32_t served;
+    /* Whether that turn gave an event. */
+    bool event;
+    /* Who waits now, for the next call; where declined, the queue handed over. */
+    yohrundel_queue queue;
+    /* The record last served, for the next call; where idle and where declined, the one handed over. */
+    uint32_t last;
+} yohrundel_schedule_answer;
+
 /* The answer to a play. */
 typedef struct yohrundel_play_answer {
     uint32_t decline;
@@ -414,9 +453,9 @@ typedef struct yohrundel_page_sheet_answer {
  * ---- symbols of the calls that take or give a device
  *
  * Since the device record has launched, these calls have new symbols: an object file that was compiled with the record as it was before
- * does not link with these archives, where its device would be too short. The flash read has another one since it is lent the SRAM, may
+ * does not link with this archive, where its device would be too short. The flash read has another one since it is lent the SRAM, may
  * change the banks and gives a device. Programs call them by their names, and are compiled again. A call that came later, as
- * yohrundel_write_script and yohrundel_smallest, has its name as its symbol.
+ * yohrundel_write_script, yohrundel_smallest and yohrundel_schedule, has its name as its symbol.
  */
 #define yohrundel_power_on yohrundel_power_on_2
 #define yohrundel_store yohrundel_store_2
@@ -550,6 +589,49 @@ yohrundel_turn_outcome yohrundel_turn_lent(
     const uint32_t *image, size_t image_words,
     const uint32_t *sram, size_t sram_words,
     uint32_t place);
+
+/*
+ * ---- the call for a row of signs on one supply
+ *
+ * A row has 1 to 32 signs of one geometry, whose banks lie in one lent store, and whose supply bears only K flash operations together. One
+ * image and one SRAM serve all. Beside the list stand the queue of those that wait and the record last served. A row begins with a queue
+ * of nobody and the list's last as last served, and each later call gets the queue and the last served of the answer before. Ask
+ * yohrundel_update_start for each sign first: nothing is promised of an update that it declines.
+ */
+
+/* What a row begins with: nobody waits, and the last served is the last of the list. */
+static inline yohrundel_queue yohrundel_fresh_queue(void)
+{
+    const yohrundel_queue queue = {0, {0}};
+    return queue;
+}
+#define YOHRUNDEL_FRESH_LAST(signs_count) ((uint32_t)(signs_count) - 1)
+
+/*
+ * One turn for one sign of a row. With fewer than K operations running it serves the first in the queue whose turn is not declined and not
+ * done, which then leaves the queue. Else it serves the first after the last served, round the list, that can do a turn and does not wait.
+ * Of the signs that it meets there, those whose turn would launch an operation while K or more run begin to wait, in record order. A sign
+ * that is done, or whose turn yohrundel_turn would decline, is passed over: it is not served, and keeps its place in a queue. With nobody
+ * to serve the call says idle, and serves nobody: signs may have begun to wait even then. A row of accepted updates, begun together and
+ * touched by nothing else, is idle when all are done, and not before.
+ *
+ * No call raises the number of running operations above K, which is 1 to 32 and may be another at each call: where more than a smaller K
+ * run, they go on, and nobody launches. No sign launches twice while one and the same other sign waits that is not passed over. A call
+ * changes the device and the place of the sign that it serves and words of that sign's banks, and nothing else of the list and the store.
+ * So what is proved of an update that is cut, flash reads between its turns included (docs/POWER-FAIL.md), holds for each sign when all are
+ * reset together.
+ *
+ * Declines 1, then 2 for the image and the SRAM, then 19: a list of no sign or of more than 32, K of 0 or above 32, a last served or a
+ * number in the queue that is no index of the list, a queue of more than 32 or with a number twice, a bank that overlaps another of any
+ * sign, its own other bank too, or that does not lie in the store. A sign whose device is impossible is passed over and not declined.
+ */
+yohrundel_schedule_answer yohrundel_schedule(
+    yohrundel_geometry g, uint32_t k,
+    yohrundel_sign *signs, size_t signs_count,
+    yohrundel_queue queue, uint32_t last,
+    uint32_t *store, size_t store_words,
+    const uint32_t *image, size_t image_words,
+    const uint32_t *sram, size_t sram_words);
 
 /*
  * ---- calls that play, write and reduce a service script

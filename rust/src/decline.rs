@@ -42,6 +42,9 @@ pub enum Decline {
     ScriptBuffer = 17,
     /// A buffer that is shorter than the page sheet.
     SheetBuffer = 18,
+    /// A row's list length, K or last served out of range, a queue that repeats a record or oversteps the list, or overlapping or
+    /// overhanging banks.
+    Row = 19,
     /// A script of more than 64 records, of which the smallest that shows a number is asked.
     Records = 20,
     /// The play of that script never gives the number.
@@ -52,7 +55,7 @@ pub enum Decline {
 
 impl Decline {
     /// All of them, in the order of their numbers.
-    pub const ALL: [Decline; 21] = [
+    pub const ALL: [Decline; 22] = [
         Decline::Geometry,
         Decline::Length,
         Decline::Device,
@@ -71,6 +74,7 @@ impl Decline {
         Decline::NoWait,
         Decline::ScriptBuffer,
         Decline::SheetBuffer,
+        Decline::Row,
         Decline::Records,
         Decline::NotShown,
         Decline::Lanes,
@@ -101,6 +105,7 @@ impl Decline {
             Decline::NoWait => "no wait fits",
             Decline::ScriptBuffer => "the buffer is shorter than the script",
             Decline::SheetBuffer => "the buffer is shorter than the sheet",
+            Decline::Row => "the row, its queue or the places of its banks are out of range",
             Decline::Records => "the script has more than 64 records",
             Decline::NotShown => "the play never gives the number",
             Decline::Lanes => "the two lengths differ or are no multiple of 4",

@@ -1,4 +1,4 @@
-//! The archives' functions and their answers as `include/yohrundel.h` declares them, and the one place that calls them.
+//! The archive's functions and their answers as `include/yohrundel.h` declares them, and the one place that calls them.
 //!
 //! What takes or gives a device has a symbol that ends in `_2`, as in the header: an archive that knows the shorter device of before does
 //! not link. The flash read's ends in `_3` since it is lent the SRAM and gives a device; a call that came later has its name alone.
@@ -12,6 +12,7 @@
 mod lanes;
 mod plan;
 mod reach;
+mod schedule;
 mod sheet;
 mod smallest;
 mod write_script;
@@ -19,6 +20,7 @@ mod write_script;
 pub(crate) use lanes::{lanes_back, lanes_out};
 pub(crate) use plan::plan_numbers;
 pub(crate) use reach::reach;
+pub(crate) use schedule::schedule;
 pub(crate) use sheet::page_sheet;
 pub(crate) use smallest::smallest;
 pub(crate) use write_script::write_script;

@@ -3,7 +3,7 @@
 use std::collections::{BTreeMap, BTreeSet};
 use std::fmt::Debug;
 
-use yohrundel::{form, nvmcon, register, reset_kind, Decline, Reason, MOST_RECORDS};
+use yohrundel::{form, nvmcon, register, reset_kind, Decline, Reason, MOST_RECORDS, MOST_SIGNS};
 
 const HEADER: &str = include_str!("../../include/yohrundel.h");
 
@@ -40,10 +40,11 @@ fn constant(of: &str, variant: impl Debug) -> String {
 }
 
 /// The numbers that have a name of their own in the header.
-const NAMED: [(&str, u32); 33] = [
+const NAMED: [(&str, u32); 34] = [
     ("ACCEPTED", 0),
     ("MOST_SRAM_WORDS", 16_384),
     ("MOST_RECORDS", MOST_RECORDS as u32),
+    ("MOST_SIGNS", MOST_SIGNS as u32),
     ("MOST_WINDOWS", 14),
     // The wrapper's reset gives an error then.
     ("REASON_NOT_COMPARED", 4),

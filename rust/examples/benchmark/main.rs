@@ -9,6 +9,7 @@ mod lanes;
 mod reaches;
 mod reads;
 mod rounds;
+mod rows;
 mod scripts;
 mod sheets;
 mod smallest;
@@ -28,4 +29,5 @@ fn main() {
     reads::beside_the_model();
     reaches::beside_a_plain_loop();
     smallest::beside_the_model();
+    rows::beside_turns_in_a_loop();
 }

@@ -10,6 +10,7 @@ use crate::answers::{device_and_event, device_numbers, text, Answer};
 use crate::bank_cases::{flash_read_case, play_case, reset_case, step_case, turn_case};
 use crate::byte_cases::{lanes_case, sheet_case, write_script_case};
 use crate::inputs::Inputs;
+use crate::rows::{row_run_case, schedule_case};
 use crate::rules::{self, possible, protected};
 use crate::smallest::smallest_case;
 
@@ -67,6 +68,8 @@ fn call(name: &str, inputs: &mut Inputs) -> String {
         "write_script" => write_script_case(inputs),
         "reach" => text(&reach_case(inputs)),
         "smallest" => smallest_case(inputs),
+        "schedule" => schedule_case(inputs),
+        "rowrun" => row_run_case(inputs),
         _ => panic!("no case of a call: {name}"),
     }
 }

@@ -1,6 +1,6 @@
-//! The archives beside the outside model.
+//! The archive beside the outside model.
 //!
-//! Every difference fails the test with the case's line, in the form of the model's cases, and what the archives gave for it. The seed and
+//! Every difference fails the test with the case's line, in the form of the model's cases, and what the archive gave for it. The seed and
 //! the count of cases are printed; YOHRUNDEL_SEED and YOHRUNDEL_CASES set them.
 
 mod answers;
@@ -16,6 +16,9 @@ mod probes;
 mod reaches;
 mod reads;
 mod requests;
+mod row_lists;
+mod row_promises;
+mod rows;
 mod rules;
 mod scripts;
 mod settings;

@@ -64,6 +64,7 @@ fn numbers_of_the_declines() {
         Refusal::NoWait,
         Refusal::ScriptBuffer,
         Refusal::SheetBuffer,
+        Refusal::Row,
         Refusal::Records,
         Refusal::NotShown,
         Refusal::LaneLengths,

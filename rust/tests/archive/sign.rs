@@ -23,7 +23,7 @@ pub struct Sign {
     pub turns: u64,
 }
 
-fn device(outside: &OutsideDevice) -> Device {
+pub fn device(outside: &OutsideDevice) -> Device {
     let register = |number: usize| outside.registers[number];
     Device {
         nvmcon: register(0),

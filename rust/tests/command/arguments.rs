@@ -5,8 +5,8 @@ use std::os::unix::ffi::OsStrExt;
 
 use crate::run::{file, run};
 
-const COMMANDS: [&str; 9] = [
-    "play", "script", "smallest", "update", "cut", "reach", "plan", "lanes", "sheet",
+const COMMANDS: [&str; 10] = [
+    "play", "script", "smallest", "update", "cut", "row", "reach", "plan", "lanes", "sheet",
 ];
 
 #[test]
@@ -175,6 +175,25 @@ fn arguments_of_a_smallest_script_that_are_not_understood() {
 }
 
 #[test]
+fn arguments_of_a_row_that_are_not_understood() {
+    wrong("row", "SIGNS is missing");
+    wrong("row 2", "K is missing");
+    wrong("row 2 1 1 1", "P is missing");
+    wrong("row 2 1 1 1 1 - 5", "\"5\" is one argument too many");
+    wrong(
+        "row 2 x 1 1 1",
+        "K is \"x\", not a number from 0 to 4294967295",
+    );
+    wrong("row 2 1 1 1 1 --cut", "the value of --cut is missing");
+    wrong("row 2 1 1 1 1 --cut 1 --cut 1", "--cut is given twice");
+    wrong("row 2 1 1 1 1 --then", "there is no option \"--then\"");
+    let reason = "the value of --cut is \"-1\", not a number from 0 to 4294967295";
+    wrong("row 2 1 1 1 1 --cut -1", reason);
+    let reason = "the value of --cut is 505, but the row has 504 calls";
+    wrong("row 2 1 1 1 1 --cut 505", reason);
+}
+
+#[test]
 fn arguments_of_a_cut_that_are_not_understood() {
     wrong("cut 1 1 1", "PLACE is missing");
     wrong("cut 1 1 1 0", "KIND is missing");
@@ -249,6 +268,7 @@ fn declined_arguments() {
         let sizes = geometry.replace(' ', ",");
         declined(&format!("play - --sizes {sizes}"), reason);
         declined(&format!("smallest - 6 --sizes {sizes}"), reason);
+        declined(&format!("row 0 0 {geometry}"), reason);
     }
     let reason = "13: the place exceeds the total: PLACE is 253, the total 252";
     declined("cut 1 1 1 253 0", reason);
@@ -267,6 +287,19 @@ fn declined_arguments() {
     }
 }
 
+/// More signs than a row has are declined before there is memory for them.
+#[test]
+fn declined_rows() {
+    let row = "19: the row, its queue or the places of its banks are out of range";
+    for number in ["0", "33", "4294967295"] {
+        let reason = format!("{row}: SIGNS is {number}, not 1 to 32");
+        declined(&format!("row {number} 1 128 5 128"), &reason);
+        declined(&format!("row {number} 0 1 1 1 --cut 9"), &reason);
+        let reason = format!("{row}: K is {number}, not 1 to 32");
+        declined(&format!("row 2 {number} 1 1 1"), &reason);
+    }
+}
+
 #[test]
 fn images_of_a_wrong_length() {
     for length in [0, 252, 255, 257, 260] {
@@ -278,6 +311,7 @@ fn images_of_a_wrong_length() {
         declined(&format!("update 1 1 1 {path}"), &reason);
         declined(&format!("script 1 1 1 {path}"), &reason);
         declined(&format!("reach 1 1 1 {path} -"), &reason);
+        declined(&format!("row 33 0 1 1 1 {path}"), &reason);
         declined(
             &format!("play /dev/null --sizes 1,1,1 --image {path}"),
             &reason,
@@ -297,6 +331,8 @@ fn files_that_cannot_be_read() {
             let reason = format!("{command}: {reason}");
             assert_eq!(run(&[command, "1", "1", "1", path]).reason(3), reason);
         }
+        let ran = run(&["row", "1", "1", "1", "1", "1", path]);
+        assert_eq!(ran.reason(3), format!("row: {reason}"));
         let ran = run(&["smallest", path, "6"]);
         assert_eq!(ran.reason(3), format!("smallest: {reason}"));
         let ran = run(&["reach", "1", "1", "1", path, "-"]);

@@ -10,6 +10,7 @@ mod plays;
 mod reaches;
 mod readme;
 mod reads;
+mod rows;
 mod run;
 mod scripts;
 mod sheet;

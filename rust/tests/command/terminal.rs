@@ -6,6 +6,7 @@ use model::script::{play, records};
 
 use crate::outside::{Sign, LEGEND};
 use crate::play::{sequence_script, SCRIPT};
+use crate::rows::expected;
 use crate::run::{file, Ran, PROGRAM};
 
 /// A run on a terminal, which the program `script` makes. None where there is no such program.
@@ -70,5 +71,19 @@ fn banks_after_a_play() {
         sign.play(&records(&script).expect("a script"));
         let (lines, picture) = (play(&script), sign.picture());
         assert_eq!(printed, format!("{lines}\n{picture}\n{LEGEND}"));
+    }
+}
+
+/// The lines of a row are as wide as COLUMNS says, where that can be.
+#[test]
+fn width_of_a_row() {
+    if !there_is_a_terminal() {
+        return;
+    }
+    for (columns, width) in [("40", 40), ("133", 133), ("19", 72), ("x", 72), ("", 72)] {
+        let row = format!("COLUMNS={columns} {PROGRAM} row 3 2 1 1 1");
+        let printed = on_a_terminal(&row).expect("a terminal").printed();
+        let expected = expected([1, 1, 1], [3, 2], None, None, width);
+        assert_eq!(printed, expected.replace('\n', "\r\n"), "{columns}");
     }
 }

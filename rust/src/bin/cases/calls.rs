@@ -5,6 +5,7 @@ mod devices;
 mod lanes;
 mod plan;
 mod reach;
+mod rows;
 mod rules;
 mod run;
 mod script;
@@ -67,9 +68,11 @@ const CALLS: &[(&str, Call)] = &[
     ("write_script", script::write_script),
     ("reach", reach::reach),
     ("smallest", smallest::smallest),
+    ("schedule", rows::schedule),
     // Lists of calls.
     ("walk", walk::walk),
     ("run", run::run),
+    ("rowrun", rows::row_run),
 ];
 
 /// What stands right of the bar.

@@ -126,6 +126,12 @@ impl<'a> Inputs<'a> {
         T::try_from(self.number()?).or(Err(NoCase))
     }
 
+    /// "n, then n numbers", without the n.
+    pub fn numbers(&mut self) -> Result<Vec<u32>, NoCase> {
+        let count = self.count()?;
+        (0..count).map(|_| self.number()).collect()
+    }
+
     /// "n, then n pairs", without the n.
     pub fn pairs(&mut self) -> Result<Vec<[u32; 2]>, NoCase> {
         let count = self.count()?;

@@ -55,12 +55,12 @@ impl Outputs {
         outputs
     }
 
-    /// X: "n, then n pairs of index and new byte".
-    pub fn byte_changes(self, before: &[u8], after: &[u8]) -> Outputs {
+    /// X and Z: "n, then n pairs of index and new byte", or new word.
+    pub fn changes<T: Copy + PartialEq + Into<u64>>(self, before: &[T], after: &[T]) -> Outputs {
         let changed = changes(before, after);
         let mut outputs = self.count(changed.len());
-        for (index, byte) in changed {
-            outputs = outputs.count(index).number(byte);
+        for (index, element) in changed {
+            outputs = outputs.count(index).number(element);
         }
         outputs
     }

@@ -16,11 +16,14 @@ mod progress;
 mod reach;
 mod records;
 mod resets;
+mod row;
+mod row_signs;
 mod script;
 mod sheet;
 mod sign;
 mod sign_files;
 mod smallest;
+mod timeline;
 mod times;
 mod torn;
 mod update;
@@ -41,6 +44,7 @@ const COMMANDS: &[Command] = &[
     smallest::COMMAND,
     update::COMMAND,
     cut::COMMAND,
+    row::COMMAND,
     reach::COMMAND,
     plan::COMMAND,
     lanes::COMMAND,

@@ -18,5 +18,5 @@ fn sent(inputs: &mut Inputs, way: fn(&[u8], &mut [u8]) -> Result<(), Decline>) -
     let (source, before) = (inputs.bytes()?, inputs.bytes()?);
     let mut after = before.clone();
     way(&source, &mut after)?;
-    Ok(Outputs::accepted().byte_changes(&before, &after))
+    Ok(Outputs::accepted().changes(&before, &after))
 }

@@ -10,7 +10,5 @@ pub fn write_script(inputs: &mut Inputs) -> Answer {
     let mut after = before.clone();
     let (one, two) = (&banks.one, &banks.two);
     let records = yohrundel::write_script(sign, device, one, two, &image, &mut after)?;
-    Ok(Outputs::accepted()
-        .number(records)
-        .byte_changes(&before, &after))
+    Ok(Outputs::accepted().number(records).changes(&before, &after))
 }

@@ -9,7 +9,5 @@ pub fn page_sheet(inputs: &mut Inputs) -> Answer {
     let (banks, before) = (inputs.banks()?, inputs.bytes()?);
     let mut after = before.clone();
     let bytes = yohrundel::page_sheet(sign, device, &banks.one, &banks.two, &mut after)?;
-    Ok(Outputs::accepted()
-        .count(bytes)
-        .byte_changes(&before, &after))
+    Ok(Outputs::accepted().count(bytes).changes(&before, &after))
 }

@@ -23,7 +23,7 @@ pub fn smallest(inputs: &mut Inputs) -> Answer {
     match yohrundel::smallest(bench, scratch, &script, number, &mut result) {
         Ok(records) => Ok(Outputs::accepted()
             .number(records)
-            .byte_changes(&held, &result)
+            .changes(&held, &result)
             .bank_changes(&before, &after)),
         Err(Decline::NotShown) => {
             let declined = Outputs::only(Decline::NotShown.number());

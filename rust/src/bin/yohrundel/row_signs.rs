@@ -1,0 +1,82 @@
+//! A row of made-up signs on one supply.
+
+use yohrundel::reset_kind::POWER_ON;
+use yohrundel::{reset, schedule, start_up, Bank, Decline, Served, SignRecord, Standing, Supply};
+
+use crate::sign::Sign;
+
+pub struct Row {
+    /// The sign as each was before its update.
+    sign: Sign,
+    image: Vec<u32>,
+    k: u32,
+    pub signs: Vec<SignRecord>,
+    pub standing: Standing,
+    store: Vec<u32>,
+    /// The actions of each update.
+    pub total: u32,
+}
+
+impl Row {
+    /// So many fresh signs, with the banks of each one after the other in the store; their updates are accepted.
+    pub fn fresh(sign: Sign, image: Vec<u32>, signs: u32, k: u32) -> Result<Row, Decline> {
+        let (words, total) = (image.len() as u32, sign.start()?);
+        let record = |number: u32| SignRecord {
+            device: sign.device,
+            place: 0,
+            one: 2 * number * words,
+            two: (2 * number + 1) * words,
+        };
+        Ok(Row {
+            signs: (0..signs).map(record).collect(),
+            standing: Standing::fresh(signs as usize),
+            store: sign.banks.concat().repeat(signs as usize),
+            total,
+            sign,
+            image,
+            k,
+        })
+    }
+
+    /// The calls that do all actions of all updates.
+    pub fn calls(&self) -> u32 {
+        self.total * self.signs.len() as u32
+    }
+
+    /// One call without SRAM.
+    pub fn call(&mut self) -> Result<Option<Served>, Decline> {
+        let supply = Supply {
+            geometry: self.sign.geometry,
+            k: self.k,
+            image: &self.image,
+            sram: &[],
+        };
+        let (signs, standing) = (&mut self.signs, &mut self.standing);
+        schedule(supply, signs, standing, &mut self.store)
+    }
+
+    /// Whether an update did all its actions.
+    pub fn is_done(&self, sign: &SignRecord) -> bool {
+        sign.place == self.total
+    }
+
+    /// A power-on reset and a start-up of all signs.
+    pub fn restart(&mut self) -> Result<(), Decline> {
+        let (geometry, words) = (self.sign.geometry, self.image.len());
+        for sign in &mut self.signs {
+            let own = &mut self.store[sign.one as usize..][..2 * words];
+            let (one, two) = own.split_at_mut(words);
+            let cut = reset(geometry, sign.device, one, two, &[], POWER_ON, [0; 4])?;
+            sign.device = start_up(geometry, cut.device)?;
+        }
+        Ok(())
+    }
+
+    /// Whether bank 1 of a sign kept every word, and bank 2 is the image with the new sequence quad.
+    pub fn kept_and_exact(&self, sign: &SignRecord) -> (bool, bool) {
+        let words = self.image.len();
+        let bank = |start: u32| &self.store[start as usize..][..words];
+        let kept = bank(sign.one) == self.sign.old_bank(Bank::One);
+        (kept, bank(sign.two) == self.sign.new)
+    }
+}
