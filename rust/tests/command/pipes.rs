@@ -8,12 +8,46 @@ use std::time::Duration;
 
 use crate::run::{finish, run, spawn, Ran, PROGRAM};
 
-/// A reader that is gone gets nothing, and the command says nothing.
+/// A reader that is gone gets nothing: no success, and nothing is said. A shell gives 128 + 13 for a program that SIGPIPE ends.
+const CLOSED: Ran = Ran {
+    status: Some(141),
+    out: Vec::new(),
+    err: String::new(),
+};
+
 #[test]
 fn closed_pipe() {
     let mut child = spawn(&["play", "-"]);
     drop(child.stdout.take());
-    assert_eq!(finish(child, &[0; 8]).printed(), "");
+    assert_eq!(finish(child, &[0; 8]), CLOSED);
+}
+
+/// An empty script prints nothing, which is all written without a reader.
+#[test]
+fn closed_pipe_of_nothing() {
+    let mut child = spawn(&["play", "-"]);
+    drop(child.stdout.take());
+    assert_eq!(finish(child, b"").printed(), "");
+}
+
+/// A pipe holds a short text, whether its reader takes it or not.
+#[test]
+fn reader_of_a_part_of_a_short_text() {
+    let shell = "set -o pipefail; \"$0\" plan 0 1 0:1 | head -c 3";
+    let ran = Command::new("bash").args(["-c", shell, PROGRAM]).output();
+    assert_eq!(Ran::new(ran.expect("bash")).printed(), "Wai");
+}
+
+/// In a shell that asks for it, a pipeline ends as one of `yes | head -n 1` does.
+#[test]
+fn status_in_a_shell() {
+    let front = |command: &str| {
+        let shell = format!("set -o pipefail; {command} | head -c 3 > /dev/null");
+        let ran = Command::new("bash").args(["-c", &shell, PROGRAM]).output();
+        Ran::new(ran.expect("bash"))
+    };
+    assert_eq!(front("\"$0\" script 128 5 128"), CLOSED);
+    assert_eq!(front("yes"), CLOSED);
 }
 
 /// What is declined stays declined.
@@ -33,7 +67,7 @@ fn closed_pipe_of_a_long_script() {
     let mut front = [0; 800];
     pipe.read_exact(&mut front).expect("the front of a script");
     drop(pipe);
-    assert_eq!(finish(child, b"").printed(), "");
+    assert_eq!(finish(child, b""), CLOSED);
     let whole = run(&["script", "128", "5", "128"]).out;
     assert_eq!((whole.len(), &whole[..800]), (15_262_112, &front[..]));
 }

@@ -65,7 +65,8 @@ Plays service scripts and updates signs on the proved flash controller.
 const FOOT: &str = "\
 yohrundel COMMAND --help says more of a command, yohrundel --version gives the
 version. The status is 0, or 1 where the work is declined, 2 where the arguments
-or a text are not understood, 3 where a file or the output fails.
+or a text are not understood, 3 where a file or the output fails, 141 where the
+reader of the output was gone before all was written.
 ";
 
 pub fn version() -> String {

@@ -2,7 +2,7 @@
 
 use std::ffi::OsStr;
 use std::fmt::Display;
-use std::io;
+use std::io::{self, ErrorKind};
 
 use yohrundel::Decline;
 
@@ -15,10 +15,13 @@ pub const ARGUMENTS: u8 = 2;
 /// A file cannot be read or written, or the output cannot be written.
 pub const FILES: u8 = 3;
 
+/// The reader of the output was gone before all was written: what a shell gives for a program that SIGPIPE, signal 13, ends.
+pub const CLOSED: u8 = 128 + 13;
+
 pub struct Failure {
     /// What is printed all the same.
     pub output: Vec<u8>,
-    /// One line.
+    /// One line; empty where nothing is said.
     pub reason: String,
     pub status: u8,
 }
@@ -48,8 +51,12 @@ impl Failure {
         Failure::new(FILES, format!("{path:?} cannot be written: {error}"))
     }
 
+    /// The output cannot be written. That its reader is gone is no news to whoever ended it.
     pub fn output(error: io::Error) -> Failure {
-        Failure::new(FILES, format!("the output cannot be written: {error}"))
+        match error.kind() {
+            ErrorKind::BrokenPipe => Failure::new(CLOSED, String::new()),
+            _ => Failure::new(FILES, format!("the output cannot be written: {error}")),
+        }
     }
 
     /// A decline with what the caller knows of its cause.

@@ -31,7 +31,7 @@ mod wording;
 
 use std::env;
 use std::ffi::OsString;
-use std::io::{self, ErrorKind, Write};
+use std::io::{self, Write};
 use std::process::ExitCode;
 
 use command::Command;
@@ -79,18 +79,18 @@ fn answer(arguments: &[OsString]) -> Answer {
     }
 }
 
-/// Writes to standard output. That its reader is gone is no failure.
+/// Writes to standard output.
 fn print(output: &[u8]) -> Result<(), Failure> {
     let mut out = io::stdout().lock();
-    match out.write_all(output).and_then(|()| out.flush()) {
-        Err(error) if error.kind() != ErrorKind::BrokenPipe => Err(Failure::output(error)),
-        _ => Ok(()),
-    }
+    let written = out.write_all(output).and_then(|()| out.flush());
+    written.map_err(Failure::output)
 }
 
 fn fail(failure: Failure) -> ExitCode {
     // The failure is told by its reason and its status, whatever becomes of its output.
     let _ = print(&failure.output);
-    let _ = writeln!(io::stderr(), "yohrundel: {}", failure.reason);
+    if !failure.reason.is_empty() {
+        let _ = writeln!(io::stderr(), "yohrundel: {}", failure.reason);
+    }
     ExitCode::from(failure.status)
 }
