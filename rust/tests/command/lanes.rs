@@ -43,7 +43,10 @@ fn lengths_that_are_declined() {
     for length in [1, 2, 3, 5, 4095] {
         for way in ["out", "back"] {
             let reason = "22: the two lengths differ or are no multiple of 4";
-            let cause = format!("\"-\" has {length} bytes");
+            let cause = match length {
+                1 => String::from("\"-\" has 1 byte"),
+                _ => format!("\"-\" has {length} bytes"),
+            };
             let expected = format!("lanes: declined by {reason}: {cause}");
             assert_eq!(lanes(way, &vec![0; length]).reason(1), expected);
         }

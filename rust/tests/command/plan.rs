@@ -39,7 +39,8 @@ fn expected(now: u32, duration: u32, windows: &[Window]) -> Result<String, &'sta
     match plan(now, duration, windows) {
         Ok(wait) => {
             let (day, time) = day_and_time((now + wait) % WEEK);
-            Ok(format!("Wait {wait} minutes, until {day} {time}.\n"))
+            let minutes = if wait == 1 { "minute" } else { "minutes" };
+            Ok(format!("Wait {wait} {minutes}, until {day} {time}.\n"))
         }
         Err(Refusal::WeekRange) => Err("15: a number of the plan is out of range"),
         Err(Refusal::NoWait) => Err("16: no wait fits"),
@@ -81,6 +82,19 @@ fn random_plans() {
         fits += u32::from(compare(random, now, duration, &windows));
     }
     assert!((1..200).contains(&fits));
+}
+
+/// Around the moment from which on there is no wait.
+#[test]
+fn short_waits() {
+    let random = &mut Random::new(8);
+    for now in [98, 99, 100, 101] {
+        assert!(compare(random, now, 60, &[window(100, 61)]));
+    }
+    let text = planned("Mon 01:39", "60", &["100:61".into()]).printed();
+    assert_eq!(text, "Wait 1 minute, until Mon 01:40.\n");
+    let text = planned("Mon 01:38", "60", &["100:61".into()]).printed();
+    assert_eq!(text, "Wait 2 minutes, until Mon 01:40.\n");
 }
 
 #[test]

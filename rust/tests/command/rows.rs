@@ -10,6 +10,12 @@ use model::update::total;
 use crate::outside::Sign;
 use crate::run::{bytes, file, run};
 
+/// A number of calls in words.
+fn calls_text(calls: u32) -> String {
+    let noun = if calls == 1 { "call" } else { "calls" };
+    format!("{calls} {noun}")
+}
+
 /// A row in the model, and what each sign did after each call: w waits, # its operation runs, . neither, blank done.
 struct Supply {
     sign: Sign,
@@ -152,7 +158,10 @@ impl Supply {
         }
         match longest {
             (0, _) => String::from("No sign waited."),
-            (calls, sign) => format!("The longest wait was {calls} calls, of sign {sign}."),
+            (calls, sign) => {
+                let calls = calls_text(calls);
+                format!("The longest wait was {calls}, of sign {sign}.")
+            }
         }
     }
 }
@@ -199,12 +208,13 @@ pub fn expected(
         None => "the row is idle",
     };
     let most = supply.together.iter().max().unwrap_or(&0);
+    let calls = calls_text(calls);
     let (picture, legend) = (supply.picture(width), supply.legend(width));
     let (head, longest) = (head(signs, k, total), supply.longest());
     let mut text = format!(
         "{head}\n{picture}\n{legend}\n\
          At most {most} ran together. {longest}\n\n\
-         After {calls} calls {end}. After a power-on reset and start-up of all:\n"
+         After {calls} {end}. After a power-on reset and start-up of all:\n"
     );
     for number in 0..signs as usize {
         let (place, runs) = (supply.row.signs[number].place, supply.restart(number));

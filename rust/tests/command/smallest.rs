@@ -26,6 +26,7 @@ fn smallest(script: &[u8], number: u32, options: &[&str]) -> Ran {
 fn expected(script: &[Record], left: &[Record], number: u32) -> String {
     let all = script.len();
     let front = match left.len() {
+        1 if all == 1 => format!("# 1 of 1 record is left. Its play gives {number}.\n"),
         1 => format!("# 1 of {all} records is left. Its play gives {number}.\n"),
         count => format!(
             "# {count} of {all} records are left. \
@@ -75,6 +76,9 @@ fn check(sign: &Sign, script: &[u8], number: u32, options: &[&str]) -> Option<us
 fn worked_example() {
     let expected = "# 1 of 9 records is left. Its play gives 6.\nstep  # record 8\n";
     assert_eq!(smallest(SCRIPT, 6, &[]).printed(), expected);
+    let step = &SCRIPT[64..];
+    let expected = "# 1 of 1 record is left. Its play gives 6.\nstep  # record 0\n";
+    assert_eq!(smallest(step, 6, &[]).printed(), expected);
     let stored = [&SCRIPT[..56], &Record::Reset { kind: 2 }.bytes(), SCRIPT].concat();
     assert_eq!(check(&Sign::bench(), &stored, 6, &[]), Some(1));
 }

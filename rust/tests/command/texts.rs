@@ -147,6 +147,20 @@ fn largest_script_there_and_back() {
     assert!(script == again && script.len() == 15_262_112);
 }
 
+/// How many records a text has.
+#[test]
+fn lengths_that_are_said() {
+    let path = named("lengths.bin", b"");
+    for (text, said) in [
+        (&b""[..], "The script has 0 records in 0 bytes.\n"),
+        (b"step", "The script has 1 record in 8 bytes.\n"),
+        (b"step\nstep", "The script has 2 records in 16 bytes.\n"),
+    ] {
+        let made = finish(spawn(&["script", "--make", "-", "-o", &path]), text);
+        assert_eq!(made.printed(), said);
+    }
+}
+
 /// Comments, blank lines, blanks, numbers with and without 0x, kinds by number, and no line feed at the end.
 #[test]
 fn texts_that_are_made() {

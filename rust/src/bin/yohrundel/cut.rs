@@ -10,7 +10,7 @@ use crate::picture::{legend, picture};
 use crate::progress::Progress;
 use crate::sign::{made_up_image, Sign};
 use crate::torn::change;
-use crate::wording::{ending, runs, whole_update};
+use crate::wording::{counted, ending, runs, whole_update};
 
 pub const COMMAND: Command = Command {
     name: "cut",
@@ -55,7 +55,8 @@ fn run(arguments: Arguments) -> Answer {
     }
     let (tries, left_out) = tries(&mut sign, &cuts, &mut progress)?;
     let (again, legend) = (again(&mut sign, left_out, &mut progress)?, legend());
-    Ok(format!("The update has {total} actions.\n{tries}{again}\n{legend}").into())
+    let actions = counted(total, "action");
+    Ok(format!("The update has {actions}.\n{tries}{again}\n{legend}").into())
 }
 
 /// The cuts one after another, while the same update is accepted again; and whether any is left out.

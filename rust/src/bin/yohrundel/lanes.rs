@@ -6,6 +6,7 @@ use crate::arguments::Arguments;
 use crate::command::Command;
 use crate::failure::{Answer, Failure};
 use crate::files;
+use crate::wording::counted;
 
 pub const COMMAND: Command = Command {
     name: "lanes",
@@ -33,8 +34,8 @@ fn run(mut arguments: Arguments) -> Answer {
     let source = files::bytes(path, usize::MAX)?;
     let mut target = vec![0; source.len()];
     let declined = |decline| {
-        let length = source.len();
-        Failure::declined(decline, format_args!("{path:?} has {length} bytes"))
+        let bytes = counted(source.len(), "byte");
+        Failure::declined(decline, format_args!("{path:?} has {bytes}"))
     };
     way(&source, &mut target).map_err(declined)?;
     Ok(target)

@@ -6,6 +6,7 @@ use crate::arguments::{formed, Arguments};
 use crate::command::Command;
 use crate::failure::{Answer, Failure};
 use crate::times::{read_minute, weekday_and_time, WEEK};
+use crate::wording::counted;
 
 pub const COMMAND: Command = Command {
     name: "plan",
@@ -32,7 +33,8 @@ fn run(mut arguments: Arguments) -> Answer {
     let windows = take_windows(&mut arguments)?;
     let wait = plan(now, duration, &windows)?;
     let time = weekday_and_time((now + wait) % WEEK);
-    Ok(format!("Wait {wait} minutes, until {time}.\n").into())
+    let minutes = counted(wait, "minute");
+    Ok(format!("Wait {minutes}, until {time}.\n").into())
 }
 
 /// The start and the length of each window.

@@ -10,6 +10,7 @@ use crate::row_signs::Row;
 use crate::sign::Sign;
 use crate::sign_files::image;
 use crate::timeline::Timeline;
+use crate::wording::counted;
 
 pub const COMMAND: Command = Command {
     name: "row",
@@ -107,12 +108,13 @@ fn serve(row: &mut Row, calls: u32, progress: &mut Progress) -> Result<String, D
 fn end(row: &mut Row, cut: Option<u32>, calls: u32) -> Result<String, Decline> {
     let places: Vec<u32> = row.signs.iter().map(|sign| sign.place).collect();
     let front = match cut {
-        Some(_) => format!("After {calls} calls the supply fails."),
-        None if row.call()?.is_none() => format!("After {calls} calls the row is idle."),
-        None => format!("After {calls} calls the row is not idle."),
+        Some(_) => "the supply fails",
+        None if row.call()?.is_none() => "the row is idle",
+        None => "the row is not idle",
     };
     row.restart()?;
-    let mut text = format!("{front} After a power-on reset and start-up of all:\n");
+    let calls = counted(calls, "call");
+    let mut text = format!("After {calls} {front}. After a power-on reset and start-up of all:\n");
     for (number, place) in places.into_iter().enumerate() {
         text += &format!("sign {number:<2} at place {place}: {}\n", runs(row, number));
     }

@@ -13,6 +13,7 @@ use crate::play::malformed;
 use crate::records::{line, record, RECORD};
 use crate::sign::Sign;
 use crate::sign_files::BankFiles;
+use crate::wording::counted;
 
 pub const COMMAND: Command = Command {
     name: "script",
@@ -79,8 +80,9 @@ fn write(mut arguments: Arguments, output: &Output) -> Answer {
 }
 
 fn length(script: &[u8]) -> String {
-    let (records, bytes) = (script.len() / RECORD, script.len());
-    format!("The script has {records} records in {bytes} bytes.\n")
+    let records = counted(script.len() / RECORD, "record");
+    let bytes = counted(script.len(), "byte");
+    format!("The script has {records} in {bytes}.\n")
 }
 
 /// A script as text.

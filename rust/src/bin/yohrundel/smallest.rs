@@ -11,6 +11,7 @@ use crate::play::malformed;
 use crate::records::{line, RECORD};
 use crate::sign::Sign;
 use crate::sign_files::{take_sizes, BankFiles};
+use crate::wording::counted;
 
 pub const COMMAND: Command = Command {
     name: "smallest",
@@ -92,7 +93,8 @@ fn report(script: &[u8], result: &[u8], number: u32) -> String {
         _ => "are left. Their play gives NUMBER; without any one it does not.",
     };
     let sentence = sentence.replace("NUMBER", &number.to_string());
-    let mut text = format!("# {left} of {all} records {sentence}\n");
+    let all = counted(all, "record");
+    let mut text = format!("# {left} of {all} {sentence}\n");
     let lines: Vec<String> = result.chunks(RECORD).filter_map(line).collect();
     let width = lines.iter().map(String::len).max().unwrap_or(0);
     for (line, number) in lines.iter().zip(places(script, result)) {

@@ -4,6 +4,7 @@ use std::env;
 use std::io::{self, IsTerminal};
 
 use crate::row_signs::Row;
+use crate::wording::counted;
 
 /// The columns of a text that goes to no terminal, or to one of an unknown width.
 const WIDTH: usize = 72;
@@ -90,7 +91,7 @@ impl Timeline {
         let [waits, runs, between, _] = STATES;
         let each = match self.calls as usize / self.columns.len().max(1) {
             0 | 1 => String::from("one call"),
-            calls => format!("about {calls} calls"),
+            calls => format!("about {}", counted(calls, "call")),
         };
         format!(
             "{waits} waits   {runs} its operation runs   {between} between operations   blank done\n\
@@ -104,7 +105,10 @@ impl Timeline {
         let most = self.together.iter().max().unwrap_or(&0);
         let waited = match self.longest {
             (0, _) => String::from("No sign waited."),
-            (calls, sign) => format!("The longest wait was {calls} calls, of sign {sign}."),
+            (calls, sign) => {
+                let calls = counted(calls, "call");
+                format!("The longest wait was {calls}, of sign {sign}.")
+            }
         };
         format!("At most {most} ran together. {waited}\n")
     }

@@ -1,4 +1,6 @@
-//! What both an update and a cut say.
+//! What several commands say.
+
+use std::fmt::Display;
 
 use yohrundel::reset_kind::POWER_ON;
 use yohrundel::{Bank, Decline};
@@ -19,6 +21,14 @@ pub fn runs(sign: &Sign) -> String {
     }
 }
 
+/// A number before a noun, which gets an s but after 1.
+pub fn counted(number: impl Display, noun: &str) -> String {
+    match number.to_string() {
+        one if one == "1" => format!("{one} {noun}"),
+        several => format!("{several} {noun}s"),
+    }
+}
+
 /// A quad in hexadecimal words.
 pub fn quad(words: &[u32]) -> String {
     let words: Vec<String> = words.iter().map(|word| format!("{word:08X}")).collect();
@@ -35,8 +45,10 @@ pub fn whole_update(
     sign.restart(POWER_ON, [0; 4])?;
     let (runs, picture, ending) = (runs(sign), picture(sign)?, ending(sign));
     Ok(format!(
-        "It has {total} actions and is done after {turns} turns.\n\
-         After a power-on reset and start-up {runs}.\n\n{picture}\n{ending}"
+        "It has {} and is done after {}.\n\
+         After a power-on reset and start-up {runs}.\n\n{picture}\n{ending}",
+        counted(total, "action"),
+        counted(turns, "turn")
     ))
 }
 
