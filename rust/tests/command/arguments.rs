@@ -87,7 +87,7 @@ fn arguments_that_are_not_understood() {
     wrong("reach 1 1 1 -", "IMAGE2 is missing");
     wrong("reach 1 1 1 - - -", "\"-\" is one argument too many");
     wrong("reach 1 1 1 - --all", "there is no option \"--all\"");
-    wrong("plan 0 1", "START:LENGTH is missing");
+    wrong("plan 0 1", "WINDOW is missing");
     wrong("lanes", "the way is missing");
     wrong("lanes forth -", "the way is \"forth\", not out or back");
     wrong("lanes out", "FILE is missing");

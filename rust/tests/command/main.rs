@@ -19,3 +19,4 @@ mod terminal;
 mod texts;
 mod tries;
 mod updates;
+mod windows;

@@ -6,13 +6,13 @@ use model::Refusal;
 
 use crate::run::{run, Ran};
 
-fn planned(now: &str, duration: &str, windows: &[String]) -> Ran {
+pub fn planned(now: &str, duration: &str, windows: &[String]) -> Ran {
     let mut arguments = vec!["plan", now, duration];
     arguments.extend(windows.iter().map(String::as_str));
     run(&arguments)
 }
 
-fn day_and_time(minute: u32) -> (&'static str, String) {
+pub fn day_and_time(minute: u32) -> (&'static str, String) {
     let days = ["Mon", "Tue", "Wed", "Thu", "Fri", "Sat", "Sun"];
     let (hours, minutes) = (minute / 60 % 24, minute % 60);
     let day = days[minute as usize / (24 * 60)];
@@ -25,8 +25,9 @@ fn written(random: &mut Random, minute: u32) -> String {
         return minute.to_string();
     }
     let (day, time) = day_and_time(minute);
-    match random.below(5) {
+    match random.below(6) {
         0 => minute.to_string(),
+        5 => format!("{day} {}", time.strip_prefix('0').unwrap_or(&time)),
         1 => format!("{day} {time}"),
         2 => format!("{day}-{time}"),
         3 => format!("{day}{time}"),
@@ -35,7 +36,7 @@ fn written(random: &mut Random, minute: u32) -> String {
 }
 
 /// What a plan prints beside its reason where it is declined.
-fn expected(now: u32, duration: u32, windows: &[Window]) -> Result<String, &'static str> {
+pub fn expected(now: u32, duration: u32, windows: &[Window]) -> Result<String, &'static str> {
     match plan(now, duration, windows) {
         Ok(wait) => {
             let (day, time) = day_and_time((now + wait) % WEEK);
@@ -65,7 +66,7 @@ fn compare(random: &mut Random, now: u32, duration: u32, windows: &[Window]) -> 
     true
 }
 
-fn window(start: u32, length: u32) -> Window {
+pub fn window(start: u32, length: u32) -> Window {
     Window { start, length }
 }
 
@@ -91,9 +92,9 @@ fn short_waits() {
     for now in [98, 99, 100, 101] {
         assert!(compare(random, now, 60, &[window(100, 61)]));
     }
-    let text = planned("Mon 01:39", "60", &["100:61".into()]).printed();
+    let text = planned("Mon 1:39", "60", &["100:61".into()]).printed();
     assert_eq!(text, "Wait 1 minute, until Mon 01:40.\n");
-    let text = planned("Mon 01:38", "60", &["100:61".into()]).printed();
+    let text = planned("Mon 1:38", "60", &["100:61".into()]).printed();
     assert_eq!(text, "Wait 2 minutes, until Mon 01:40.\n");
 }
 
@@ -124,7 +125,10 @@ fn times_that_are_not_understood() {
         "",
         "Mo",
         "Mon",
-        "Mon 7:00",
+        "Mon :00",
+        "Mon 7:0",
+        "Mon 7:000",
+        "Mon 007:00",
         "Mon 24:00",
         "Mon 07:60",
         "Mon 07",
@@ -154,8 +158,22 @@ fn times_that_are_not_understood() {
         "Mon-22:30",
         "Mon-22:30:",
         "0:1:1",
+        "22:00-06:00",
+        "1320-06:00",
+        "Mon-22:00-",
+        "Mon-22:00-360",
+        "Mon-22:00-6",
+        "Mon-22:00-06:60",
+        "Mon-24:00-06:00",
+        "Mon-22:00-24:01",
+        "Mon-22:00-Tue",
+        "Mon-22:00-Day-06:00",
+        "Mon-22:00-06:00-07:00",
+        "Mon-22:00 06:00",
+        "Mon-22:00--06:00",
     ] {
-        let reason = format!("plan: START:LENGTH is {text:?}, not as 1350:120 or Mon-22:30:120");
+        let words = "as Mon-22:00-06:00, Fri-22:00-Mon-06:00 or 1350:120";
+        let reason = format!("plan: WINDOW is {text:?}, not {words}");
         let ran = planned("0", "1", &["0:1".into(), text.into()]);
         assert_eq!(
             ran.reason(2),

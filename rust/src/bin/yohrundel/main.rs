@@ -27,6 +27,7 @@ mod timeline;
 mod times;
 mod torn;
 mod update;
+mod windows;
 mod wording;
 
 use std::env;

@@ -6,19 +6,27 @@ use crate::arguments::{formed, Arguments};
 use crate::command::Command;
 use crate::failure::{Answer, Failure};
 use crate::times::{read_minute, weekday_and_time, WEEK};
+use crate::windows::{read_window, Window, WINDOW_WORDS};
 use crate::wording::counted;
 
 pub const COMMAND: Command = Command {
     name: "plan",
-    arguments: "NOW DURATION START:LENGTH..",
+    arguments: "NOW DURATION WINDOW..",
     summary: "gives the wait until an update fits",
     details: "\
 NOW is the present minute of the week: a number from 0 to 10079, counted from
-Monday 00:00, or a weekday and a time as 'Mon 22:30', Mon-22:30 or Mon22:30.
+Monday 00:00, or a weekday and a time as 'Mon 22:30', Mon-22:30 or Mon7:30.
 DURATION is how many minutes an update takes, 1 to 1440.
-START:LENGTH is a window in which signs may be updated, from a minute of the
-week on for 1 to 10080 minutes, as 1350:120 or Mon-22:30:120. It may run past
-the end of the week. There are 1 to 14 windows.
+WINDOW is a time in which signs may be updated. There are 1 to 14, each as
+  Mon-22:00-06:00      from a weekday and a time to a time. An end that is not
+                       after the start is on the next day: here on Tuesday, and
+                       Mon-06:00-06:00 is 24 hours long. 24:00 ends a day.
+  Fri-22:00-Mon-06:00  from a weekday and a time to the next such weekday and
+                       time; Mon-06:00-Mon-06:00 is a week long.
+  1350:120             from a minute of the week, as NOW is one, for 1 to 10080
+                       minutes; also Mon-22:30:120.
+'Mon 22:00-06:00' is understood, too. A window may run past the end of the week,
+and an update may end when the window ends.
 It prints the smallest wait in minutes after which a whole update lies in one
 window, and the weekday and time then. Numbers that are out of range and windows
 that are all too short are declined.",
@@ -37,20 +45,13 @@ fn run(mut arguments: Arguments) -> Answer {
     Ok(format!("Wait {minutes}, until {time}.\n").into())
 }
 
-/// The start and the length of each window.
-fn take_windows(arguments: &mut Arguments) -> Result<Vec<[u32; 2]>, Failure> {
-    let mut windows = vec![arguments.form(NAME, WINDOW, read_window)?];
+/// At least one window.
+fn take_windows(arguments: &mut Arguments) -> Result<Vec<Window>, Failure> {
+    let mut windows = vec![arguments.form(NAME, WINDOW_WORDS, read_window)?];
     while let Some(argument) = arguments.optional()? {
-        windows.push(formed(argument, NAME, WINDOW, read_window)?);
+        windows.push(formed(argument, NAME, WINDOW_WORDS, read_window)?);
     }
     Ok(windows)
 }
 
-const NAME: &str = "START:LENGTH";
-const WINDOW: &str = "as 1350:120 or Mon-22:30:120";
-
-/// The last colon parts them, since a time may have one too.
-fn read_window(text: &str) -> Option<[u32; 2]> {
-    let (start, length) = text.rsplit_once(':')?;
-    Some([read_minute(start)?, length.parse().ok()?])
-}
+const NAME: &str = "WINDOW";

@@ -3,34 +3,42 @@
 const DAYS: [&str; 7] = ["Mon", "Tue", "Wed", "Thu", "Fri", "Sat", "Sun"];
 
 const HOUR: u32 = 60;
-const DAY: u32 = 24 * HOUR;
+/// The minutes of a day.
+pub const DAY: u32 = 24 * HOUR;
+
+/// The minutes of a week.
 pub const WEEK: u32 = 7 * DAY;
 
 /// A minute of the week by its number, which may be out of range, or by a weekday and a time.
 pub fn read_minute(text: &str) -> Option<u32> {
     match text.parse() {
         Ok(minute) => Some(minute),
-        Err(_) => read_weekday_and_time(text),
+        Err(_) => weekday_and(text, read_time),
     }
 }
 
 /// As `Mon 22:30`; a hyphen or nothing may stand for the blank, and small letters for capitals.
-fn read_weekday_and_time(text: &str) -> Option<u32> {
+pub fn weekday_and(text: &str, read_time: fn(&str) -> Option<u32>) -> Option<u32> {
     let (weekday, time) = text.split_at_checked(3)?;
     let day = DAYS
         .iter()
         .position(|day| day.eq_ignore_ascii_case(weekday))?;
     let time = time.strip_prefix([' ', '-']).unwrap_or(time);
-    let (hours, minutes) = time.split_once(':')?;
-    let (hours, minutes) = (read_below(24, hours)?, read_below(60, minutes)?);
-    Some(day as u32 * DAY + hours * HOUR + minutes)
+    Some(day as u32 * DAY + read_time(time)?)
 }
 
-/// A number of two digits, below a limit.
-fn read_below(limit: u32, text: &str) -> Option<u32> {
-    let digits = text.len() == 2 && text.bytes().all(|digit| digit.is_ascii_digit());
-    let number = text.parse().ok()?;
-    (digits && number < limit).then_some(number)
+/// As `22:30` or `7:30`, in minutes of the day.
+pub fn read_time(text: &str) -> Option<u32> {
+    let (hours, minutes) = text.split_once(':')?;
+    let are_digits = [hours, minutes]
+        .concat()
+        .bytes()
+        .all(|digit| digit.is_ascii_digit());
+    if !are_digits || hours.len() > 2 || minutes.len() != 2 {
+        return None;
+    }
+    let (hours, minutes): (u32, u32) = (hours.parse().ok()?, minutes.parse().ok()?);
+    (hours < 24 && minutes < 60).then_some(hours * HOUR + minutes)
 }
 
 /// The weekday and time of a minute below [`WEEK`].
