@@ -1,68 +1,25 @@
-//! Help, version, and arguments that are not understood or declined.
+//! Arguments that are not understood or declined.
 
 use std::ffi::OsStr;
 use std::os::unix::ffi::OsStrExt;
 
 use crate::run::{file, run};
 
-const COMMANDS: [&str; 10] = [
-    "play", "script", "smallest", "update", "cut", "row", "reach", "plan", "lanes", "sheet",
-];
-
-#[test]
-fn help_names_every_command() {
-    let help = run(&["--help"]).printed();
-    let named: Vec<&str> = help
-        .lines()
-        .filter_map(|line| line.strip_prefix("  "))
-        .filter_map(|line| line.split(' ').next())
-        .collect();
-    assert_eq!(named, COMMANDS);
-    assert_eq!(run(&["-h"]).printed(), help);
-}
-
-#[test]
-fn help_of_each_command() {
-    let all = run(&["--help"]).printed();
-    for command in COMMANDS {
-        let help = run(&[command, "--help"]).printed();
-        let first = help.lines().next().unwrap_or("");
-        let usage = first.strip_prefix("usage: yohrundel ").expect("its usage");
-        assert!(usage.starts_with(&format!("{command} ")));
-        assert!(all.contains(&format!("\n  {usage}  ")), "{usage}");
-        assert_eq!(run(&[command, "x", "-h"]).printed(), help);
-    }
-}
-
-#[test]
-fn help_has_at_most_80_columns() {
-    let of_each = COMMANDS.map(|command| run(&[command, "--help"]));
-    for help in of_each.into_iter().chain([run(&["--help"])]) {
-        let help = help.printed();
-        assert!(help.lines().all(|line| line.len() <= 80), "{help}");
-    }
-}
-
-#[test]
-fn version() {
-    let expected = format!("yohrundel {}\n", env!("CARGO_PKG_VERSION"));
-    assert_eq!(run(&["--version"]).printed(), expected);
-    assert_eq!(run(&["-V"]).printed(), expected);
-}
-
 #[test]
 fn no_such_command() {
     let none: [&str; 0] = [];
     let reason = "COMMAND is missing; try yohrundel --help";
     assert_eq!(run(&none).reason(2), reason);
-    let reason = "there is no command \"paly\"; try yohrundel --help";
+    let reason = "there is no command \"paly\", the nearest is play; try yohrundel --help";
     assert_eq!(run(&["paly"]).reason(2), reason);
+    let reason = "there is no command \"erase\"; try yohrundel --help";
+    assert_eq!(run(&["erase"]).reason(2), reason);
     let reason = "there is no command \"\\xFF\"; try yohrundel --help";
     assert_eq!(run(&[OsStr::from_bytes(b"\xFF")]).reason(2), reason);
 }
 
 /// Arguments of a command that get a reason and the status 2.
-fn wrong(arguments: &str, reason: &str) {
+pub fn wrong(arguments: &str, reason: &str) {
     let arguments: Vec<&str> = arguments.split(' ').collect();
     let command = arguments[0];
     let expected = format!("{command}: {reason}; try yohrundel {command} --help");
@@ -125,10 +82,10 @@ fn arguments_of_a_script_that_are_not_understood() {
     wrong("script --make - 1 1 1", "\"1\" is one argument too many");
     let both = "--list and --make exclude each other";
     wrong("script --list - --make -", both);
-    wrong(
-        "script --list - --bank1 -",
-        "there is no option \"--bank1\"",
-    );
+    let both = "--list and --bank1 exclude each other";
+    wrong("script --list - --bank1 -", both);
+    let both = "--make and --bank2 exclude each other";
+    wrong("script --bank2 - --make -", both);
 }
 
 #[test]
@@ -147,11 +104,7 @@ fn options_of_a_play_that_are_not_understood() {
     let both = "--bank1 and --bank2 go together";
     wrong("play - --sizes 1,1,1 --bank2 -", both);
     wrong("play - --save1", "the value of --save1 is missing");
-    wrong(
-        "play - --restart --restart",
-        "there is no option \"--restart\"",
-    );
-    wrong("play - --save3 x", "there is no option \"--save3\"");
+    wrong("play - --restart --restart", "--restart is given twice");
 }
 
 #[test]

@@ -1,7 +1,10 @@
 //! The command `yohrundel`, run as a program. What it must print is computed by the outside model.
 
 mod arguments;
+mod completion;
+mod help;
 mod lanes;
+mod options;
 mod outside;
 mod pipes;
 mod plan;

@@ -1,99 +1,105 @@
-//! The arguments of a command, taken one after another.
+//! The arguments of a command: the positional ones, taken one after another, and the options.
 
 use std::collections::VecDeque;
-use std::ffi::{OsStr, OsString};
+use std::ffi::OsStr;
+use std::mem;
 
 use yohrundel::Geometry;
 
 use crate::failure::Failure;
+use crate::options::OptionSpec;
 
+/// What is given to a command, or to one part of it.
 #[derive(Default)]
 pub struct Arguments<'a> {
-    rest: VecDeque<&'a OsStr>,
+    pub positionals: VecDeque<&'a OsStr>,
+    /// The names of the options that are given, with their values; one without a value has an empty one.
+    pub options: Vec<(&'static str, &'a OsStr)>,
+    /// The parts that options begin, each with its own arguments.
+    further: Vec<Arguments<'a>>,
 }
 
 impl<'a> Arguments<'a> {
-    pub fn new(arguments: &'a [OsString]) -> Arguments<'a> {
-        let rest = arguments.iter().map(OsString::as_os_str).collect();
-        Arguments { rest }
+    /// The first part with those after it.
+    pub fn of_parts(parts: Vec<Arguments<'a>>) -> Arguments<'a> {
+        let mut parts = parts.into_iter();
+        let first = parts.next().unwrap_or_default();
+        Arguments {
+            further: parts.collect(),
+            ..first
+        }
     }
 
-    /// The arguments before each that is a name, and those after the last of them.
-    pub fn parts(self, name: &str) -> Vec<Arguments<'a>> {
-        let mut parts = vec![Arguments::default()];
-        for argument in self.rest {
-            match parts.last_mut() {
-                Some(part) if argument != name => part.rest.push_back(argument),
-                _ => parts.push(Arguments::default()),
+    /// Takes the parts after the first.
+    pub fn further_parts(&mut self) -> Vec<Arguments<'a>> {
+        mem::take(&mut self.further)
+    }
+
+    /// Whether an option is given.
+    pub fn is_given(&self, option: &OptionSpec) -> bool {
+        self.values(option).next().is_some()
+    }
+
+    /// The value of an option, none where it is not given.
+    pub fn value(&self, option: &OptionSpec) -> Option<&'a OsStr> {
+        self.values(option).next()
+    }
+
+    /// The values of an option, one for each time that it is given.
+    fn values(&self, option: &OptionSpec) -> impl Iterator<Item = &'a OsStr> + '_ {
+        let name = option.name;
+        let given = self.options.iter().filter(move |(of, _)| *of == name);
+        given.map(|(_, value)| *value)
+    }
+
+    /// The values of an option as texts in a form, which the words name.
+    pub fn value_forms<T>(
+        &self,
+        option: &OptionSpec,
+        words: &str,
+        read: fn(&str) -> Option<T>,
+    ) -> Result<Vec<T>, Failure> {
+        let name = format!("the value of {}", option.name);
+        let values = self.values(option);
+        values
+            .map(|value| formed(value, &name, words, read))
+            .collect()
+    }
+
+    /// The value of an option that may be given once, as text in a form.
+    pub fn value_form<T>(
+        &self,
+        option: &OptionSpec,
+        words: &str,
+        read: fn(&str) -> Option<T>,
+    ) -> Result<Option<T>, Failure> {
+        Ok(self.value_forms(option, words, read)?.pop())
+    }
+
+    /// An option is not given together with any of some others.
+    pub fn exclude(&self, option: &OptionSpec, others: &[OptionSpec]) -> Result<(), Failure> {
+        let other = others.iter().find(|other| self.is_given(other));
+        match other.filter(|_| self.is_given(option)) {
+            Some(other) => {
+                let names = format!("{} and {}", option.name, other.name);
+                Err(Failure::arguments(format!("{names} exclude each other")))
             }
-        }
-        parts
-    }
-
-    /// The next argument, none at the end. One that begins with a hyphen is an option that there is not, but for `-` alone.
-    pub fn optional(&mut self) -> Result<Option<&'a OsStr>, Failure> {
-        let Some(argument) = self.rest.pop_front() else {
-            return Ok(None);
-        };
-        let bytes = argument.as_encoded_bytes();
-        if bytes.starts_with(b"-") && bytes != b"-" {
-            let reason = format!("there is no option {argument:?}");
-            return Err(Failure::arguments(reason));
-        }
-        Ok(Some(argument))
-    }
-
-    /// The next argument where it is the name of one of the options, and what stands for it.
-    pub fn option<T: Copy>(&mut self, options: &[(&'static str, T)]) -> Option<(&'static str, T)> {
-        let next = self.rest.front()?;
-        let option = options.iter().find(|(name, _)| next == name)?;
-        self.rest.pop_front();
-        Some(*option)
-    }
-
-    /// What follows the name of an option, wherever both stand; none where the option is not given.
-    pub fn value(&mut self, name: &str) -> Result<Option<&'a OsStr>, Failure> {
-        let value = self.next_value(name)?;
-        match self.place(name) {
-            Some(_) => Err(Failure::arguments(format!("{name} is given twice"))),
-            None => Ok(value),
+            None => Ok(()),
         }
     }
 
-    /// What follows the name of an option that may be given several times.
-    pub fn values(&mut self, name: &str) -> Result<Vec<&'a OsStr>, Failure> {
-        let mut values = Vec::new();
-        while let Some(value) = self.next_value(name)? {
-            values.push(value);
-        }
-        Ok(values)
+    /// The next positional argument, none at the end.
+    pub fn optional(&mut self) -> Option<&'a OsStr> {
+        self.positionals.pop_front()
     }
 
-    fn next_value(&mut self, name: &str) -> Result<Option<&'a OsStr>, Failure> {
-        let Some(place) = self.place(name) else {
-            return Ok(None);
-        };
-        self.rest.remove(place);
-        let missing = || Failure::arguments(format!("the value of {name} is missing"));
-        self.rest.remove(place).ok_or_else(missing).map(Some)
-    }
-
-    /// Whether an option without a value is given, wherever it stands.
-    pub fn flag(&mut self, name: &str) -> bool {
-        let place = self.place(name);
-        place.and_then(|place| self.rest.remove(place)).is_some()
-    }
-
-    fn place(&self, name: &str) -> Option<usize> {
-        self.rest.iter().position(|argument| *argument == name)
-    }
-
+    /// The next positional argument, which has a name.
     pub fn required(&mut self, name: &str) -> Result<&'a OsStr, Failure> {
         let missing = || Failure::arguments(format!("{name} is missing"));
-        self.optional()?.ok_or_else(missing)
+        self.optional().ok_or_else(missing)
     }
 
-    /// The next argument as text in a form, which the words name.
+    /// The next positional argument as text in a form, which the words name.
     pub fn form<T>(
         &mut self,
         name: &str,
@@ -103,6 +109,7 @@ impl<'a> Arguments<'a> {
         formed(self.required(name)?, name, words, read)
     }
 
+    /// The next positional argument as a decimal number.
     pub fn number(&mut self, name: &str) -> Result<u32, Failure> {
         self.form(name, DECIMAL_WORDS, decimal)
     }
@@ -117,9 +124,9 @@ impl<'a> Arguments<'a> {
         Ok(geometry)
     }
 
-    /// There are no more arguments.
+    /// There are no more positional arguments.
     pub fn end(&mut self) -> Result<(), Failure> {
-        match self.optional()? {
+        match self.optional() {
             Some(argument) => {
                 let reason = format!("{argument:?} is one argument too many");
                 Err(Failure::arguments(reason))
@@ -143,6 +150,7 @@ pub fn formed<T>(
 /// What a decimal number may be.
 pub const DECIMAL_WORDS: &str = "a number from 0 to 4294967295";
 
+/// A decimal number of 32 bits.
 pub fn decimal(text: &str) -> Option<u32> {
     text.parse().ok()
 }

@@ -1,38 +1,69 @@
-//! What the help says of a command, and how it is run.
+//! A command: its tables, from which its help and its completion are made and its arguments are parsed, and how it is run.
+//!
+//! A new command is a file with a `COMMAND`, which `COMMANDS` in main.rs lists. Each of its options is a constant [`OptionSpec`], which its
+//! table lists; `run` asks [`Arguments`] for what was given by the same constant. What is not in the table, is given twice or lacks its
+//! value never gets to `run`.
 
-use std::ffi::OsString;
+use std::ffi::{OsStr, OsString};
 
 use crate::arguments::Arguments;
 use crate::failure::{Answer, Failure, ARGUMENTS};
+use crate::help_text;
+use crate::nearest::or_nearest;
+use crate::options::{OptionSpec, HELP};
+use crate::parse::{find, parse, END};
 
+/// A command by its tables.
 pub struct Command {
     pub name: &'static str,
-    /// Its arguments by their names.
+    /// Its positional arguments by their names.
     pub arguments: &'static str,
+    /// What completion offers for the first of them.
+    pub first: First,
     /// What it does, in a few words.
     pub summary: &'static str,
-    /// What its arguments are and what it prints.
+    /// What its positional arguments are and what it prints.
     pub details: &'static str,
+    /// Its options but for `--help`, which every command has.
+    pub options: &'static [OptionSpec],
     pub run: fn(Arguments) -> Answer,
+}
+
+/// What the first positional argument of a command may be.
+pub enum First {
+    /// A number, a time or the name of a file.
+    Any,
+    OneOf(&'static [&'static str]),
+    /// The name of a command.
+    Command,
 }
 
 impl Command {
     /// What is printed for its arguments.
     pub fn answer(&self, arguments: &[OsString]) -> Answer {
-        let asks_help = |argument: &OsString| argument == "--help" || argument == "-h";
-        if arguments.iter().any(asks_help) {
-            return Ok(self.help().into());
+        let mut options = arguments.iter().take_while(|argument| *argument != END);
+        if options.any(|argument| find(&[HELP], argument).is_some()) {
+            return Ok(help_text::of_command(self).into());
         }
-        (self.run)(Arguments::new(arguments)).map_err(|failure| self.named(failure))
+        let parsed = parse(&self.table(), arguments);
+        let answer = parsed.and_then(self.run);
+        answer.map_err(|failure| self.named(failure))
     }
 
-    fn help(&self) -> String {
-        let (usage, details) = (self.usage(), self.details);
-        format!("usage: yohrundel {usage}\n\n{details}\n")
+    /// All its options.
+    pub fn table(&self) -> Vec<OptionSpec> {
+        [self.options, &[HELP]].concat()
     }
 
-    fn usage(&self) -> String {
-        format!("{} {}", self.name, self.arguments)
+    /// Its name and what follows it.
+    pub fn usage(&self) -> String {
+        let options = match self.options {
+            [] => "",
+            _ => "[OPTION..]",
+        };
+        let parts = [self.name, self.arguments, options];
+        let given: Vec<&str> = parts.into_iter().filter(|part| !part.is_empty()).collect();
+        given.join(" ")
     }
 
     /// The failure with the command's name in front.
@@ -45,30 +76,12 @@ impl Command {
     }
 }
 
-/// The help of all commands.
-pub fn help(commands: &[Command]) -> String {
-    let widest = commands.iter().map(|command| command.usage().len()).max();
-    let width = widest.unwrap_or(0);
-    let line = |command: &Command| {
-        let (usage, summary) = (command.usage(), command.summary);
-        format!("  {usage:width$}  {summary}\n")
-    };
-    let lines: String = commands.iter().map(line).collect();
-    format!("{HEAD}\n{lines}\n{FOOT}")
-}
-
-const HEAD: &str = "\
-usage: yohrundel COMMAND ARGUMENTS
-Plays service scripts and updates signs on the proved flash controller.
-";
-
-const FOOT: &str = "\
-yohrundel COMMAND --help says more of a command, yohrundel --version gives the
-version. The status is 0, or 1 where the work is declined, 2 where the arguments
-or a text are not understood, 3 where a file or the output fails, 141 where the
-reader of the output was gone before all was written.
-";
-
-pub fn version() -> String {
-    format!("yohrundel {}\n", env!("CARGO_PKG_VERSION"))
+/// The command of a name.
+pub fn command(commands: &'static [Command], name: &OsStr) -> Result<&'static Command, Failure> {
+    let command = commands.iter().find(|command| name == command.name);
+    command.ok_or_else(|| {
+        let names = commands.iter().map(|command| command.name);
+        let reason = or_nearest(format!("there is no command {name:?}"), name, names);
+        Failure::arguments(reason)
+    })
 }

@@ -3,8 +3,8 @@
 use yohrundel::{Bank, Decline};
 
 use crate::arguments::Arguments;
-use crate::command::Command;
-use crate::cut_arguments::{take_cuts, Cut};
+use crate::command::{Command, First};
+use crate::cut_arguments::{take_cuts, Cut, CUT_START_UP, READ, THEN};
 use crate::failure::{declined, Answer, Failure};
 use crate::picture::{legend, picture};
 use crate::progress::Progress;
@@ -14,7 +14,8 @@ use crate::wording::{counted, ending, runs, whole_update};
 
 pub const COMMAND: Command = Command {
     name: "cut",
-    arguments: "Q B P PLACE KIND [MASK] [OPTION..]",
+    arguments: "Q B P PLACE KIND [MASK]",
+    first: First::Any,
     summary: "runs an update whose supply fails",
     details: "\
 Q, B and P are the sign's sizes, and it begins, as for yohrundel update; the
@@ -24,16 +25,6 @@ KIND is the kind of the reset: 0 or power-on, 1 or brown-out, 2 or other.
 MASK chooses, where an operation runs, which bits of its next quad get through
 (1) and which stay as they were (0): a hexadecimal word for all four words, or
 four with commas between them. It is 0 where none is given.
-OPTION is any of
-  --read ADDRESS    before the supply fails the CPU reads the word at that
-                    hexadecimal address
-  --cut-start-up N  after the reset the supply fails again, when N stores of the
-                    start-up are done, or all where it has fewer; a reset of the
-                    same kind follows. It may be given several times.
-  --then PLACE KIND [MASK] [OPTION..]
-                    the update is begun again, and the supply fails again, with
-                    options of this cut alone. It may be given several times.
-                    Cuts are left out once the new bank runs.
 Boot pages are at 1FC00000, of the bank that runs, and at 1FC20000, of the
 other; program pages are at 1D000000, of the bank that runs and then of the
 other. A read of the bank that an operation works on waits: it does the steps
@@ -41,6 +32,7 @@ that are left, and the update's turns for them would be declined by 6.
 It prints what the read gave, and for how many steps it waited; a picture of
 both banks at the cut, which bank runs after the reset and start-up and why,
 whether the same update is accepted again, and how that ends.",
+    options: &[READ, CUT_START_UP, THEN],
     run,
 };
 

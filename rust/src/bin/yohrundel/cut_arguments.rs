@@ -2,9 +2,34 @@
 
 use yohrundel::Geometry;
 
-use crate::arguments::{decimal, formed, hexadecimal, Arguments, DECIMAL_WORDS};
+use crate::arguments::{decimal, hexadecimal, Arguments, DECIMAL_WORDS};
 use crate::failure::Failure;
+use crate::options::OptionSpec;
 use crate::resets::{take_kind, take_mask, Kind};
+
+/// The read of a cut.
+pub const READ: OptionSpec = OptionSpec::value(
+    "--read",
+    "ADDRESS",
+    "before the supply fails the CPU reads the word at that hexadecimal address",
+);
+
+/// A start-up of a cut that is cut itself.
+pub const CUT_START_UP: OptionSpec = OptionSpec::value(
+    "--cut-start-up",
+    "N",
+    "after the reset the supply fails again, when N stores of the start-up are done, or all where \
+     it has fewer; a reset of the same kind follows. It may be given several times.",
+)
+.several();
+
+/// The next cut.
+pub const THEN: OptionSpec = OptionSpec::part(
+    "--then",
+    "PLACE KIND [MASK] [OPTION..]",
+    "the update is begun again, and the supply fails again, with options of this cut alone. It may \
+     be given several times. Cuts are left out once the new bank runs.",
+);
 
 /// One cut of an update.
 pub struct Cut {
@@ -18,39 +43,20 @@ pub struct Cut {
 }
 
 /// The sign's sizes and its cuts, at least one.
-pub fn take_cuts(arguments: Arguments) -> Result<(Geometry, Vec<Cut>), Failure> {
-    let mut parts = arguments.parts("--then").into_iter();
-    let mut first = parts.next().unwrap_or_default();
-    let (read, start_ups) = take_options(&mut first)?;
-    let geometry = first.geometry()?;
-    let mut cuts = vec![take_cut(first, read, start_ups)?];
-    for mut part in parts {
-        let (read, start_ups) = take_options(&mut part)?;
-        cuts.push(take_cut(part, read, start_ups)?);
+pub fn take_cuts(mut arguments: Arguments) -> Result<(Geometry, Vec<Cut>), Failure> {
+    let parts = arguments.further_parts();
+    let geometry = arguments.geometry()?;
+    let mut cuts = vec![take_cut(arguments)?];
+    for part in parts {
+        cuts.push(take_cut(part)?);
     }
     Ok((geometry, cuts))
 }
 
-/// The options of a cut, wherever they stand among its arguments.
-fn take_options(arguments: &mut Arguments) -> Result<(Option<u32>, Vec<u32>), Failure> {
-    let read = arguments.value("--read")?.map(|value| {
-        let (name, words) = ("the value of --read", "a hexadecimal address");
-        formed(value, name, words, hexadecimal)
-    });
-    let start_ups = arguments.values("--cut-start-up")?.into_iter();
-    let start_ups = start_ups.map(|value| {
-        let name = "the value of --cut-start-up";
-        formed(value, name, DECIMAL_WORDS, decimal)
-    });
-    Ok((read.transpose()?, start_ups.collect::<Result<_, _>>()?))
-}
-
-/// "PLACE KIND [MASK]", and nothing after it.
-fn take_cut(
-    mut arguments: Arguments,
-    read: Option<u32>,
-    start_ups: Vec<u32>,
-) -> Result<Cut, Failure> {
+/// "PLACE KIND [MASK]" with its options, and nothing after it.
+fn take_cut(mut arguments: Arguments) -> Result<Cut, Failure> {
+    let read = arguments.value_form(&READ, "a hexadecimal address", hexadecimal)?;
+    let start_ups = arguments.value_forms(&CUT_START_UP, DECIMAL_WORDS, decimal)?;
     let cut = Cut {
         place: arguments.number("PLACE")?,
         kind: take_kind(&mut arguments)?,

@@ -18,6 +18,22 @@ pub const FILES: u8 = 3;
 /// The reader of the output was gone before all was written: what a shell gives for a program that SIGPIPE, signal 13, ends.
 pub const CLOSED: u8 = 128 + 13;
 
+/// The statuses with what the help says of them.
+pub const STATUSES: [(u8, &str); 5] = [
+    (0, "the work is done"),
+    (DECLINED, "the work is declined, by a number and its reason"),
+    (ARGUMENTS, "the arguments or a text are not understood"),
+    (
+        FILES,
+        "a file cannot be read or written, or the output cannot be written",
+    ),
+    (
+        CLOSED,
+        "the reader of the output was gone before all was written, as with | head; nothing is \
+         said of it",
+    ),
+];
+
 pub struct Failure {
     /// What is printed all the same.
     pub output: Vec<u8>,

@@ -3,7 +3,7 @@
 use yohrundel::{lanes_back, lanes_out, Decline};
 
 use crate::arguments::Arguments;
-use crate::command::Command;
+use crate::command::{Command, First};
 use crate::failure::{Answer, Failure};
 use crate::files;
 use crate::wording::counted;
@@ -11,12 +11,14 @@ use crate::wording::counted;
 pub const COMMAND: Command = Command {
     name: "lanes",
     arguments: "out|back FILE",
+    first: First::OneOf(&["out", "back"]),
     summary: "stores images in byte lanes, and back",
     details: "\
 FILE is an image of words, lowest byte first, of any length; - is standard
 input. Out writes all first bytes of its words to standard output, then all
 second, third and fourth. Back restores the image from them. A file whose length
 is no multiple of 4 is declined.",
+    options: &[],
     run,
 };
 

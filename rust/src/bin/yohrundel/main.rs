@@ -2,13 +2,19 @@
 
 mod arguments;
 mod command;
+mod completion;
 mod cut;
 mod cut_arguments;
 mod failure;
 mod files;
+mod help;
+mod help_text;
 mod lanes;
+mod nearest;
+mod options;
 mod output;
 mod page_names;
+mod parse;
 mod picture;
 mod plan;
 mod play;
@@ -34,9 +40,13 @@ use std::env;
 use std::ffi::OsString;
 use std::io::{self, Write};
 use std::process::ExitCode;
+use std::slice;
 
-use command::Command;
+use command::{command, Command};
 use failure::{Answer, Failure};
+use help_text::{GLOBAL, VERSION};
+use options::HELP;
+use parse::{is_option, parse};
 
 /// The commands in the order of the help. Each has a file of its own.
 const COMMANDS: &[Command] = &[
@@ -50,6 +60,8 @@ const COMMANDS: &[Command] = &[
     plan::COMMAND,
     lanes::COMMAND,
     sheet::COMMAND,
+    help::COMMAND,
+    completion::COMMAND,
 ];
 
 fn main() -> ExitCode {
@@ -62,22 +74,32 @@ fn main() -> ExitCode {
 
 /// What is printed for the arguments.
 fn answer(arguments: &[OsString]) -> Answer {
-    let Some((name, rest)) = arguments.split_first() else {
-        let reason = "COMMAND is missing; try yohrundel --help";
-        return Err(Failure::arguments(reason));
-    };
-    match name.to_str() {
-        Some("--help" | "-h") => return Ok(command::help(COMMANDS).into()),
-        Some("--version" | "-V") => return Ok(command::version().into()),
-        _ => {}
-    }
-    match COMMANDS.iter().find(|command| name == command.name) {
-        Some(command) => command.answer(rest),
-        None => {
-            let reason = format!("there is no command {name:?}; try yohrundel --help");
-            Err(Failure::arguments(reason))
+    match arguments {
+        [name, rest @ ..] if !is_option(name) => {
+            let command = command(COMMANDS, name).map_err(with_help)?;
+            command.answer(rest)
         }
+        [option, ..] => global(slice::from_ref(option)).map_err(with_help),
+        [] => global(&[]).map_err(with_help),
     }
+}
+
+/// What is printed for an option in place of a command.
+fn global(arguments: &[OsString]) -> Answer {
+    let given = parse(&GLOBAL, arguments)?;
+    if given.is_given(&VERSION) {
+        Ok(help_text::version().into())
+    } else if given.is_given(&HELP) {
+        Ok(help_text::of_all(COMMANDS).into())
+    } else {
+        Err(Failure::arguments("COMMAND is missing"))
+    }
+}
+
+/// A failure with where to read on.
+fn with_help(failure: Failure) -> Failure {
+    let reason = format!("{}; try yohrundel --help", failure.reason);
+    Failure { reason, ..failure }
 }
 
 /// Writes to standard output.

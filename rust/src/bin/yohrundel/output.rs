@@ -6,20 +6,24 @@ use std::io::{self, IsTerminal};
 use crate::arguments::Arguments;
 use crate::failure::{Answer, Failure};
 use crate::files;
+use crate::options::{OptionSpec, FILE};
 
+/// The option of a command that may write to a file.
+pub const OUT: OptionSpec = OptionSpec::value("-o", FILE, "writes to FILE");
+
+/// The file of a command's work, none for standard output.
 pub struct Output<'a>(Option<&'a OsStr>);
 
 impl<'a> Output<'a> {
     /// What -o says, or else standard output.
-    pub fn take(arguments: &mut Arguments<'a>) -> Result<Output<'a>, Failure> {
-        let given = Output::take_given(arguments)?;
-        Ok(given.unwrap_or(Output(None)))
+    pub fn of(arguments: &Arguments<'a>) -> Output<'a> {
+        Output::given(arguments).unwrap_or(Output(None))
     }
 
     /// The file of -o, where it is given; `-` is standard output.
-    pub fn take_given(arguments: &mut Arguments<'a>) -> Result<Option<Output<'a>>, Failure> {
-        let path = arguments.value("-o")?;
-        Ok(path.map(|path| Output(Some(path).filter(|path| *path != "-"))))
+    pub fn given(arguments: &Arguments<'a>) -> Option<Output<'a>> {
+        let path = arguments.value(&OUT)?;
+        Some(Output(Some(path).filter(|path| *path != "-")))
     }
 
     /// Bytes that are no text do not go to a terminal.

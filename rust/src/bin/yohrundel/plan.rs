@@ -3,7 +3,7 @@
 use yohrundel::plan;
 
 use crate::arguments::{formed, Arguments};
-use crate::command::Command;
+use crate::command::{Command, First};
 use crate::failure::{Answer, Failure};
 use crate::times::{read_minute, weekday_and_time, WEEK};
 use crate::windows::{read_window, Window, WINDOW_WORDS};
@@ -12,6 +12,7 @@ use crate::wording::counted;
 pub const COMMAND: Command = Command {
     name: "plan",
     arguments: "NOW DURATION WINDOW..",
+    first: First::Any,
     summary: "gives the wait until an update fits",
     details: "\
 NOW is the present minute of the week: a number from 0 to 10079, counted from
@@ -30,6 +31,7 @@ and an update may end when the window ends.
 It prints the smallest wait in minutes after which a whole update lies in one
 window, and the weekday and time then. Numbers that are out of range and windows
 that are all too short are declined.",
+    options: &[],
     run,
 };
 
@@ -40,15 +42,16 @@ fn run(mut arguments: Arguments) -> Answer {
     let duration = arguments.number("DURATION")?;
     let windows = take_windows(&mut arguments)?;
     let wait = plan(now, duration, &windows)?;
-    let time = weekday_and_time((now + wait) % WEEK);
+    let minute = (now + wait) % WEEK;
+    let start = weekday_and_time(minute);
     let minutes = counted(wait, "minute");
-    Ok(format!("Wait {minutes}, until {time}.\n").into())
+    Ok(format!("Wait {minutes}, until {start}.\n").into())
 }
 
 /// At least one window.
 fn take_windows(arguments: &mut Arguments) -> Result<Vec<Window>, Failure> {
     let mut windows = vec![arguments.form(NAME, WINDOW_WORDS, read_window)?];
-    while let Some(argument) = arguments.optional()? {
+    while let Some(argument) = arguments.optional() {
         windows.push(formed(argument, NAME, WINDOW_WORDS, read_window)?);
     }
     Ok(windows)

@@ -8,18 +8,20 @@ use yohrundel::reset_kind::POWER_ON;
 use yohrundel::{Decline, Geometry};
 
 use crate::arguments::Arguments;
-use crate::command::Command;
+use crate::command::{Command, First};
 use crate::failure::{Answer, Failure};
 use crate::files;
+use crate::options::{OptionSpec, FILE};
 use crate::picture::{legend, picture};
 use crate::records::RECORD;
 use crate::sign::Sign;
-use crate::sign_files::{take_sizes, BankFiles};
+use crate::sign_files::{sizes, BankFiles, BANK1, BANK2, SIZES};
 use crate::wording::runs;
 
 pub const COMMAND: Command = Command {
     name: "play",
-    arguments: "FILE [OPTION..]",
+    arguments: "FILE",
+    first: First::Any,
     summary: "plays a service script",
     details: "\
 FILE is a service script of at most 65,536 bytes; - is standard input. It is
@@ -29,19 +31,28 @@ number from 0, the answer (0, or why it was refused), NVMCON, and 1 where there
 was an event, else 0. On a terminal a picture of both banks after the play
 follows.
 What is no script gets the line 14, a reason on standard error, and status 1.
-OPTION is any of
-  --sizes Q,B,P              plays on a sign of these sizes, after power-on and
-                             start-up, a script of any length
-  --bank1 FILE --bank2 FILE  that sign's banks, files of words, lowest byte
-                             first; without them as for yohrundel update
-  --image FILE               an image whose pages the picture shows as new
-  --restart                  then a power-on reset and start-up; it says how
-                             many records were refused, which bank runs, why
-  --save1 FILE --save2 FILE  at the end bank 1, bank 2 or both go to these files
+With --sizes a script may be of any length.
 A script of yohrundel script ends on its sign in the new bank. A play checks
 nothing that an update start checks: on any other sign nothing is promised.",
+    options: &[SIZES, BANK1, BANK2, IMAGE, RESTART, SAVE1, SAVE2],
     run,
 };
+
+const IMAGE: OptionSpec = OptionSpec::value(
+    "--image",
+    FILE,
+    "an image whose pages the picture shows as new",
+);
+
+const RESTART: OptionSpec = OptionSpec::flag(
+    "--restart",
+    "resets by power-on and starts up at the end, and says how many records were refused, which \
+     bank runs, and why",
+);
+
+const SAVE1: OptionSpec = OptionSpec::value("--save1", FILE, "writes bank 1 to FILE at the end");
+
+const SAVE2: OptionSpec = OptionSpec::value("--save2", FILE, "writes bank 2 to FILE at the end");
 
 /// The longest script of the play program in bytes.
 const LONGEST: usize = 65_536;
@@ -56,13 +67,13 @@ struct Options<'a> {
 }
 
 impl<'a> Options<'a> {
-    fn take(arguments: &mut Arguments<'a>) -> Result<Options<'a>, Failure> {
+    fn of(arguments: &Arguments<'a>) -> Result<Options<'a>, Failure> {
         let options = Options {
-            sizes: take_sizes(arguments)?,
-            banks: BankFiles::take(arguments)?,
-            image: arguments.value("--image")?,
-            restart: arguments.flag("--restart"),
-            save: [arguments.value("--save1")?, arguments.value("--save2")?],
+            sizes: sizes(arguments)?,
+            banks: BankFiles::of(arguments)?,
+            image: arguments.value(&IMAGE),
+            restart: arguments.is_given(&RESTART),
+            save: [arguments.value(&SAVE1), arguments.value(&SAVE2)],
         };
         let of_a_sign = options.banks.are_given() || options.image.is_some();
         if of_a_sign && options.sizes.is_none() {
@@ -81,7 +92,7 @@ impl<'a> Options<'a> {
 }
 
 fn run(mut arguments: Arguments) -> Answer {
-    let options = Options::take(&mut arguments)?;
+    let options = Options::of(&arguments)?;
     let path = arguments.required("FILE")?;
     arguments.end()?;
     let (mut sign, longest) = options.sign()?;

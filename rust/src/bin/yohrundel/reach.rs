@@ -3,7 +3,7 @@
 use yohrundel::{reach, Decline, Geometry, Reach};
 
 use crate::arguments::Arguments;
-use crate::command::Command;
+use crate::command::{Command, First};
 use crate::failure::Answer;
 use crate::files;
 use crate::page_names::word_name;
@@ -11,6 +11,7 @@ use crate::page_names::word_name;
 pub const COMMAND: Command = Command {
     name: "reach",
     arguments: "Q B P IMAGE1 IMAGE2",
+    first: First::Any,
     summary: "says what a changed image can touch",
     details: "\
 Q, B and P are the sign's sizes, as for yohrundel update. IMAGE1 and IMAGE2 are
@@ -24,6 +25,7 @@ same place, and their banks differ in at most that word of the new bank, also
 after any equal cut and start-up; the same bank runs in both. A word of the
 sequence quad is ignored by an update: nothing differs.
 Where several words differ it prints how many, and the first and the last.",
+    options: &[],
     run,
 };
 

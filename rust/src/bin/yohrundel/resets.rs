@@ -42,7 +42,7 @@ pub fn take_kind(arguments: &mut Arguments) -> Result<Kind, Failure> {
 
 /// A mask, 0 where none is given.
 pub fn take_mask(arguments: &mut Arguments) -> Result<[u32; 4], Failure> {
-    match arguments.optional()? {
+    match arguments.optional() {
         Some(mask) => formed(mask, "MASK", "one or four hexadecimal words", read_mask),
         None => Ok([0; 4]),
     }

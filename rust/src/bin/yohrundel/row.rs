@@ -2,9 +2,10 @@
 
 use yohrundel::{Bank, Decline, MOST_SIGNS};
 
-use crate::arguments::{decimal, formed, Arguments, DECIMAL_WORDS};
-use crate::command::Command;
+use crate::arguments::{decimal, Arguments, DECIMAL_WORDS};
+use crate::command::{Command, First};
 use crate::failure::{Answer, Failure};
+use crate::options::OptionSpec;
 use crate::progress::Progress;
 use crate::row_signs::Row;
 use crate::sign::Sign;
@@ -14,7 +15,8 @@ use crate::wording::counted;
 
 pub const COMMAND: Command = Command {
     name: "row",
-    arguments: "SIGNS K Q B P [IMAGE] [--cut CALL]",
+    arguments: "SIGNS K Q B P [IMAGE]",
+    first: First::Any,
     summary: "updates a row of signs on one supply",
     details: "\
 SIGNS signs, 1 to 32, hang on a supply that bears K flash operations together, 1
@@ -24,20 +26,24 @@ waits, and the longest waiting goes first.
 It prints a line a sign of who waited and whose operation ran over time, how
 many operations ran together, how many calls it took, the longest wait, and
 which bank each sign runs after a reset and start-up.
-With --cut CALL the supply fails after so many calls: all signs are reset
-together and started up, and each runs its old bank, whole, or exactly the new.
 On a terminal the lines are as wide as COLUMNS says, else 72 columns.",
+    options: &[CUT],
     run,
 };
 
+const CUT: OptionSpec = OptionSpec::value(
+    "--cut",
+    "CALL",
+    "the supply fails after so many calls: all signs are reset together and started up, and each \
+     runs its old bank, whole, or exactly the new",
+);
+
 fn run(mut arguments: Arguments) -> Answer {
     let mut progress = Progress::new();
-    let cut = arguments.value("--cut")?;
-    let cut = cut.map(|value| formed(value, "the value of --cut", DECIMAL_WORDS, decimal));
-    let cut = cut.transpose()?;
+    let cut = arguments.value_form(&CUT, DECIMAL_WORDS, decimal)?;
     let (signs, k) = (arguments.number("SIGNS")?, arguments.number("K")?);
     let geometry = arguments.geometry()?;
-    let path = arguments.optional()?;
+    let path = arguments.optional();
     arguments.end()?;
     let image = image(geometry, path)?;
     check_range(signs, k)?;

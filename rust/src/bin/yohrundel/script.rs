@@ -5,27 +5,25 @@ use std::ffi::OsStr;
 use yohrundel::Decline;
 
 use crate::arguments::Arguments;
-use crate::command::Command;
+use crate::command::{Command, First};
 use crate::failure::{Answer, Failure};
 use crate::files;
-use crate::output::Output;
+use crate::options::{OptionSpec, FILE};
+use crate::output::{Output, OUT};
 use crate::play::malformed;
 use crate::records::{line, record, RECORD};
 use crate::sign::Sign;
-use crate::sign_files::BankFiles;
+use crate::sign_files::{BankFiles, BANK1, BANK2};
 use crate::wording::counted;
 
 pub const COMMAND: Command = Command {
     name: "script",
-    arguments: "Q B P [IMAGE] [OPTION..]",
+    arguments: "Q B P [IMAGE]",
+    first: First::Any,
     summary: "writes an update as a service script",
     details: "\
 Q, B, P and IMAGE are as for yohrundel update. It writes the update as a service
 script, a record for each action, to standard output, but never to a terminal.
-OPTION is any of
-  --bank1 FILE --bank2 FILE  the sign's banks, files as IMAGE is one; without
-                             them they are as for yohrundel update
-  -o FILE                    the script goes to FILE, and what it is for is said
 On the same sign the play of the script is the update, record by record: what
 holds where the supply fails during an update, holds during the play. What is
 written depends on the sizes, the image and the sequence number of the bank that
@@ -40,33 +38,47 @@ yohrundel script --list FILE prints a script as text, a record a line:
 REGISTER is NVMCON, NVMKEY, NVMADDR, NVMDATA0 to 3, NVMSRCADDR, NVMPWP, NVMBWP
 or NVMCON2, FORM is plain, clear, set or invert, VALUE a hexadecimal word.
 yohrundel script --make FILE makes the script of such a text. What follows a #
-in it is a comment, and a line may be blank. FILE may be - for standard input,
-and -o FILE is taken here too.",
+in it is a comment, and a line may be blank. FILE may be - for standard input.",
+    options: &[BANK1, BANK2, WORK, LIST, MAKE],
     run,
 };
 
+const WORK: OptionSpec =
+    OUT.explained("writes to FILE, and says how long the script is and what it is for");
+
+const LIST: OptionSpec = OptionSpec::value(
+    "--list",
+    FILE,
+    "prints a script as text, in place of an update",
+);
+
+const MAKE: OptionSpec = OptionSpec::value(
+    "--make",
+    FILE,
+    "makes the script of such a text, in place of an update",
+);
+
 fn run(mut arguments: Arguments) -> Answer {
-    let output = Output::take(&mut arguments)?;
-    let (listed, made) = (arguments.value("--list")?, arguments.value("--make")?);
-    match (listed, made) {
-        (None, None) => write(arguments, &output),
-        (Some(path), None) => {
-            arguments.end()?;
-            list(path, &output)
-        }
-        (None, Some(path)) => {
-            arguments.end()?;
-            make(path, &output)
-        }
-        _ => Err(Failure::arguments("--list and --make exclude each other")),
+    let output = Output::of(&arguments);
+    arguments.exclude(&LIST, &[MAKE, BANK1, BANK2])?;
+    arguments.exclude(&MAKE, &[BANK1, BANK2])?;
+    let (listed, made) = (arguments.value(&LIST), arguments.value(&MAKE));
+    if let Some(path) = listed {
+        arguments.end()?;
+        list(path, &output)
+    } else if let Some(path) = made {
+        arguments.end()?;
+        make(path, &output)
+    } else {
+        write(arguments, &output)
     }
 }
 
 /// Writes an update.
 fn write(mut arguments: Arguments, output: &Output) -> Answer {
-    let banks = BankFiles::take(&mut arguments)?;
+    let banks = BankFiles::of(&arguments)?;
     let geometry = arguments.geometry()?;
-    let image = arguments.optional()?;
+    let image = arguments.optional();
     arguments.end()?;
     output.refuse_terminal()?;
     let sign = banks.sign(geometry, image)?;

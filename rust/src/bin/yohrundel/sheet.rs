@@ -4,24 +4,36 @@ use yohrundel::reset_kind::POWER_ON;
 use yohrundel::{page_sheet, reset, start_up, Decline, Device, Geometry};
 
 use crate::arguments::{hexadecimal, Arguments};
-use crate::command::Command;
+use crate::command::{Command, First};
 use crate::failure::{Answer, Failure};
 use crate::files;
+use crate::options::OptionSpec;
 
 pub const COMMAND: Command = Command {
     name: "sheet",
-    arguments: "Q B P BANK1 BANK2 [OPTION..]",
+    arguments: "Q B P BANK1 BANK2",
+    first: First::Any,
     summary: "prints the state of a sign",
     details: "\
 Q, B and P are the sign's sizes, as for yohrundel update. BANK1 and BANK2 are
 files of words, lowest byte first, each exactly one bank long; - is standard
 input. The sign's state is that after power-on and start-up, but for registers
-that an OPTION sets: --nvmcon HEX, --nvmpwp HEX or --nvmbwp HEX.
+that an option sets.
 It prints a line for each page, bank 1 then bank 2, boot then program: the bank,
 B or P, the page of its kind, L or U for its side, 1 if protected else 0, and
 how many of its quads aren't blank.",
+    options: &[NVMCON, NVMPWP, NVMBWP],
     run,
 };
+
+const NVMCON: OptionSpec =
+    OptionSpec::value("--nvmcon", "HEX", "sets NVMCON to a hexadecimal word");
+
+const NVMPWP: OptionSpec =
+    OptionSpec::value("--nvmpwp", "HEX", "sets NVMPWP to a hexadecimal word");
+
+const NVMBWP: OptionSpec =
+    OptionSpec::value("--nvmbwp", "HEX", "sets NVMBWP to a hexadecimal word");
 
 /// The bytes of a line.
 const LINE: usize = 17;
@@ -33,7 +45,7 @@ fn run(mut arguments: Arguments) -> Answer {
     let geometry = arguments.geometry()?;
     let one = arguments.required("BANK1")?;
     let two = arguments.required("BANK2")?;
-    let registers = take_registers(&mut arguments)?;
+    let registers = registers(&arguments)?;
     arguments.end()?;
     let (one, two) = (files::bank(geometry, one)?, files::bank(geometry, two)?);
     let mut device = started(geometry, one.clone(), two.clone())?;
@@ -46,18 +58,18 @@ fn run(mut arguments: Arguments) -> Answer {
 /// A register of a device.
 type Register = fn(&mut Device) -> &mut u32;
 
-const REGISTERS: [(&str, Register); 3] = [
-    ("--nvmcon", |device| &mut device.nvmcon),
-    ("--nvmpwp", |device| &mut device.nvmpwp),
-    ("--nvmbwp", |device| &mut device.nvmbwp),
+const REGISTERS: [(OptionSpec, Register); 3] = [
+    (NVMCON, |device| &mut device.nvmcon),
+    (NVMPWP, |device| &mut device.nvmpwp),
+    (NVMBWP, |device| &mut device.nvmbwp),
 ];
 
-fn take_registers(arguments: &mut Arguments) -> Result<Vec<(Register, u32)>, Failure> {
+/// The registers that are set, with their values.
+fn registers(arguments: &Arguments) -> Result<Vec<(Register, u32)>, Failure> {
     let mut registers = Vec::new();
-    while let Some((name, register)) = arguments.option(&REGISTERS) {
-        let name = format!("the value of {name}");
-        let value = arguments.form(&name, "a hexadecimal word", hexadecimal)?;
-        registers.push((register, value));
+    for (option, register) in REGISTERS {
+        let value = arguments.value_form(&option, "a hexadecimal word", hexadecimal)?;
+        registers.extend(value.map(|value| (register, value)));
     }
     Ok(registers)
 }

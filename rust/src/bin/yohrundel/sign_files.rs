@@ -4,18 +4,36 @@ use std::ffi::OsStr;
 
 use yohrundel::Geometry;
 
-use crate::arguments::{formed, Arguments};
+use crate::arguments::Arguments;
 use crate::failure::Failure;
 use crate::files;
+use crate::options::{OptionSpec, FILE};
 use crate::sign::{made_up_image, Sign};
 
+/// The sizes of the sign that a script is played on.
+pub const SIZES: OptionSpec = OptionSpec::value(
+    "--sizes",
+    "Q,B,P",
+    "plays on a sign of these sizes, after power-on and start-up",
+);
+
+/// The file of bank 1.
+pub const BANK1: OptionSpec = OptionSpec::value(
+    "--bank1",
+    FILE,
+    "the sign's bank 1, a file of words, lowest byte first; it needs --bank2",
+);
+
+/// The file of bank 2.
+pub const BANK2: OptionSpec = OptionSpec::value(
+    "--bank2",
+    FILE,
+    "its bank 2; without these two the banks are as for yohrundel update",
+);
+
 /// What the option --sizes says.
-pub fn take_sizes(arguments: &mut Arguments) -> Result<Option<Geometry>, Failure> {
-    let Some(value) = arguments.value("--sizes")? else {
-        return Ok(None);
-    };
-    let (name, words) = ("the value of --sizes", "three numbers with commas between");
-    formed(value, name, words, read_sizes).map(Some)
+pub fn sizes(arguments: &Arguments) -> Result<Option<Geometry>, Failure> {
+    arguments.value_form(&SIZES, "three numbers with commas between", read_sizes)
 }
 
 /// Q, B and P, which the library judges.
@@ -32,8 +50,8 @@ pub struct BankFiles<'a>(Option<[&'a OsStr; 2]>);
 
 impl<'a> BankFiles<'a> {
     /// Both of the options, or none.
-    pub fn take(arguments: &mut Arguments<'a>) -> Result<BankFiles<'a>, Failure> {
-        match (arguments.value("--bank1")?, arguments.value("--bank2")?) {
+    pub fn of(arguments: &Arguments<'a>) -> Result<BankFiles<'a>, Failure> {
+        match (arguments.value(&BANK1), arguments.value(&BANK2)) {
             (None, None) => Ok(BankFiles(None)),
             (Some(one), Some(two)) => Ok(BankFiles(Some([one, two]))),
             _ => Err(Failure::arguments("--bank1 and --bank2 go together")),

@@ -3,19 +3,21 @@
 use yohrundel::{Decline, Geometry};
 
 use crate::arguments::Arguments;
-use crate::command::Command;
+use crate::command::{Command, First};
 use crate::failure::{Answer, Failure};
 use crate::files;
-use crate::output::Output;
+use crate::options::OptionSpec;
+use crate::output::{Output, OUT};
 use crate::play::malformed;
 use crate::records::{line, RECORD};
 use crate::sign::Sign;
-use crate::sign_files::{take_sizes, BankFiles};
+use crate::sign_files::{sizes, BankFiles, BANK1, BANK2, SIZES};
 use crate::wording::counted;
 
 pub const COMMAND: Command = Command {
     name: "smallest",
-    arguments: "FILE NUMBER [OPTION..]",
+    arguments: "FILE NUMBER",
+    first: First::Any,
     summary: "finds the records that a refusal needs",
     details: "\
 FILE is a service script of at most 64 records; - is standard input. NUMBER says
@@ -28,22 +30,16 @@ takes this text.
 The play of these records gives NUMBER, and without any one of them it does not.
 Fewer may give it too: two records that undo each other both stay where one of
 them alone would hide NUMBER.
-The play is that of yohrundel play, on its sign where no option names another.
-OPTION is any of
-  --sizes Q,B,P              plays on a sign of these sizes, after power-on and
-                             start-up
-  --bank1 FILE --bank2 FILE  that sign's banks, files of words, lowest byte
-                             first; without them as for yohrundel update
-  -o FILE                    writes the records that are left as a script, too",
+The play is that of yohrundel play, on its sign where no option names another.",
+    options: &[SIZES, BANK1, BANK2, SCRIPT],
     run,
 };
 
+const SCRIPT: OptionSpec = OUT.explained("writes the records that are left as a script, too");
+
 fn run(mut arguments: Arguments) -> Answer {
-    let output = Output::take_given(&mut arguments)?;
-    let (sizes, banks) = (
-        take_sizes(&mut arguments)?,
-        BankFiles::take(&mut arguments)?,
-    );
+    let output = Output::given(&arguments);
+    let (sizes, banks) = (sizes(&arguments)?, BankFiles::of(&arguments)?);
     if banks.are_given() && sizes.is_none() {
         return Err(Failure::arguments("banks need --sizes"));
     }

@@ -3,7 +3,7 @@
 use yohrundel::Decline;
 
 use crate::arguments::Arguments;
-use crate::command::Command;
+use crate::command::{Command, First};
 use crate::failure::Answer;
 use crate::picture::{legend, picture};
 use crate::progress::Progress;
@@ -14,6 +14,7 @@ use crate::wording::{runs, whole_update};
 pub const COMMAND: Command = Command {
     name: "update",
     arguments: "Q B P [IMAGE]",
+    first: First::Any,
     summary: "runs a whole update of a sign",
     details: "\
 The sign has Q quads per row (1, 2, 4, 8, 16, 32, 64 or 128), B boot pages (1 to
@@ -27,13 +28,14 @@ picture of both banks before and after.
 Beside an update a probe may read registers while the key step is 0 or 1: such a
 read changes nothing. A read at key step 2 or 3 closes the key and loses a store
 of the update; see docs/POWER-FAIL.md.",
+    options: &[],
     run,
 };
 
 fn run(mut arguments: Arguments) -> Answer {
     let mut progress = Progress::new();
     let geometry = arguments.geometry()?;
-    let path = arguments.optional()?;
+    let path = arguments.optional();
     arguments.end()?;
     let mut sign = Sign::fresh(geometry, image(geometry, path)?)?;
     let (report, legend) = (report(&mut sign, &mut progress)?, legend());
