@@ -3,7 +3,9 @@
 mod arguments;
 mod completion;
 mod help;
+mod json;
 mod lanes;
+mod objects;
 mod options;
 mod outside;
 mod pipes;

@@ -39,6 +39,7 @@ fn options_before_and_after_the_other_arguments() {
             "row --cut 7 2 1 1 1 1",
             "row 2 1 1 --cut=7 1 1",
         ],
+        ["plan 0 1 5:1", "plan --json 0 1 5:1", "plan 0 1 5:1 --json"],
         [
             "play SCRIPT",
             "play --restart --sizes 1,2,1 SCRIPT",
@@ -156,14 +157,15 @@ fn values_that_are_missing() {
         &format!("the value of --cut is \"\", not {number}"),
     );
     wrong(
-        "row 2 1 1 1 1 --cut=--help",
-        &format!("the value of --cut is \"--help\", not {number}"),
+        "row 2 1 1 1 1 --cut=--json",
+        &format!("the value of --cut is \"--json\", not {number}"),
     );
 }
 
 #[test]
 fn options_without_a_value_that_get_one() {
     wrong("play - --restart=1", "--restart takes no value");
+    wrong("plan 0 1 0:1 --json=", "--json takes no value");
     wrong("cut 1 1 1 0 0 --then=1 1", "--then takes no value");
     wrong("update 1 1 1 --help=all", "--help takes no value");
     wrong(
@@ -191,6 +193,7 @@ fn unknown_options() {
         ("cut 1 1 1 0 0 --than 1 1", "--than", "--then"),
         ("cut 1 1 1 0 0 --then 1 1 --red 0", "--red", "--read"),
         ("script 1 1 1 -O x", "-O", "-o"),
+        ("plan 0 1 0:1 --jsno", "--jsno", "--json"),
     ] {
         let reason = format!("there is no option {given:?}, the nearest is {near}");
         wrong(arguments, &reason);
@@ -233,7 +236,7 @@ fn options_given_twice() {
             refused.push(name.to_string());
         }
     }
-    for name in ["--sizes", "--restart", "-o", "--read", "--nvmbwp"] {
+    for name in ["--sizes", "--restart", "-o", "--read", "--json", "--nvmbwp"] {
         assert!(refused.iter().any(|of| of == name), "{name}");
     }
 }

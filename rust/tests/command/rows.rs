@@ -17,19 +17,19 @@ fn calls_text(calls: u32) -> String {
 }
 
 /// A row in the model, and what each sign did after each call: w waits, # its operation runs, . neither, blank done.
-struct Supply {
+pub struct Supply {
     sign: Sign,
     numbers: [u32; 3],
-    row: Row,
+    pub row: Row,
     store: Vec<u32>,
     image: Vec<u32>,
-    total: u32,
+    pub total: u32,
     states: Vec<Vec<char>>,
     together: Vec<usize>,
 }
 
 impl Supply {
-    fn new(numbers: [u32; 3], signs: u32, image: Option<Vec<u32>>) -> Supply {
+    pub fn new(numbers: [u32; 3], signs: u32, image: Option<Vec<u32>>) -> Supply {
         let geometry = Geometry::new(numbers).expect("a sign");
         let words = geometry.bank_words();
         let image = image.unwrap_or_else(|| (0x0200_0000..0x0200_0000 + words).collect());
@@ -66,7 +66,7 @@ impl Supply {
         served.expect("an accepted row").is_some()
     }
 
-    fn run(&mut self, k: u32, calls: u32) {
+    pub fn run(&mut self, k: u32, calls: u32) {
         for _ in 0..calls {
             assert!(self.call(k));
             self.together.push(self.row.running());
@@ -82,8 +82,8 @@ impl Supply {
         }
     }
 
-    /// The bank that a sign runs after a reset and start-up, in words.
-    fn restart(&self, number: usize) -> &'static str {
+    /// The bank that a sign runs after a reset and start-up: the old one, whole, or exactly the new.
+    pub fn restart(&self, number: usize) -> Bank {
         let sign = &self.row.signs[number];
         let words = self.image.len();
         let [mut one, mut two] = sign
@@ -96,13 +96,9 @@ impl Supply {
         let cut = reset(self.numbers, sign.device, &mut banks, &[], 0, [0; 4]).expect("a reset");
         let device: Device = start_up(self.numbers, cut.device).expect("a start-up");
         assert_eq!(one, self.sign.old);
-        match device.running_bank().expect("a bank that runs") {
-            Bank::One => "bank 1 runs, the old one, with every word",
-            Bank::Two => {
-                assert_eq!(two, self.sign.new);
-                "bank 2 runs, exactly the new one"
-            }
-        }
+        let runs = device.running_bank().expect("a bank that runs");
+        assert!(runs == Bank::One || two == self.sign.new);
+        runs
     }
 
     /// A line for each sign and one for the operations that ran together, of at most so many columns.
@@ -141,8 +137,8 @@ impl Supply {
         )
     }
 
-    /// The longest run of calls that a sign waited through, the first to get there of several as long.
-    fn longest(&self) -> String {
+    /// The longest run of calls that a sign waited through, and the sign, the first to get there of several as long.
+    pub fn longest(&self) -> Option<(u32, usize)> {
         let (mut longest, mut waits) = ((0, 0), vec![0; self.states.len()]);
         for call in 0..self.together.len() {
             for (number, states) in self.states.iter().enumerate() {
@@ -156,13 +152,21 @@ impl Supply {
                 }
             }
         }
-        match longest {
-            (0, _) => String::from("No sign waited."),
-            (calls, sign) => {
+        Some(longest).filter(|(calls, _)| *calls > 0)
+    }
+
+    fn longest_text(&self) -> String {
+        match self.longest() {
+            None => String::from("No sign waited."),
+            Some((calls, sign)) => {
                 let calls = calls_text(calls);
                 format!("The longest wait was {calls}, of sign {sign}.")
             }
         }
+    }
+
+    pub fn most_together(&self) -> usize {
+        self.together.iter().copied().max().unwrap_or(0)
     }
 }
 
@@ -207,17 +211,20 @@ pub fn expected(
         Some(_) => "the supply fails",
         None => "the row is idle",
     };
-    let most = supply.together.iter().max().unwrap_or(&0);
-    let calls = calls_text(calls);
+    let (calls, most) = (calls_text(calls), supply.most_together());
     let (picture, legend) = (supply.picture(width), supply.legend(width));
-    let (head, longest) = (head(signs, k, total), supply.longest());
+    let (head, longest) = (head(signs, k, total), supply.longest_text());
     let mut text = format!(
         "{head}\n{picture}\n{legend}\n\
          At most {most} ran together. {longest}\n\n\
          After {calls} {end}. After a power-on reset and start-up of all:\n"
     );
     for number in 0..signs as usize {
-        let (place, runs) = (supply.row.signs[number].place, supply.restart(number));
+        let place = supply.row.signs[number].place;
+        let runs = match supply.restart(number) {
+            Bank::One => "bank 1 runs, the old one, with every word",
+            Bank::Two => "bank 2 runs, exactly the new one",
+        };
         text += &format!("sign {number:<2} at place {place}: {runs}\n");
     }
     text

@@ -2,7 +2,7 @@
 //!
 //! A new command is a file with a `COMMAND`, which `COMMANDS` in main.rs lists. Each of its options is a constant [`OptionSpec`], which its
 //! table lists; `run` asks [`Arguments`] for what was given by the same constant. What is not in the table, is given twice or lacks its
-//! value never gets to `run`.
+//! value never gets to `run`. A command with `--json` has [`crate::json::JSON`] in its table and names the keys of its object.
 
 use std::ffi::{OsStr, OsString};
 
@@ -26,6 +26,8 @@ pub struct Command {
     pub details: &'static str,
     /// Its options but for `--help`, which every command has.
     pub options: &'static [OptionSpec],
+    /// The keys of the object that `--json` prints, each with what it says.
+    pub keys: &'static [(&'static str, &'static str)],
     pub run: fn(Arguments) -> Answer,
 }
 

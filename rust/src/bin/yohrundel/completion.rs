@@ -17,6 +17,7 @@ SHELL is bash. The script completes the names of commands, options and files.
 This line in ~/.bashrc loads it in every new shell:
   source <(yohrundel completion bash)",
     options: &[],
+    keys: &[],
     run,
 };
 

@@ -33,6 +33,7 @@ It prints what the read gave, and for how many steps it waited; a picture of
 both banks at the cut, which bank runs after the reset and start-up and why,
 whether the same update is accepted again, and how that ends.",
     options: &[READ, CUT_START_UP, THEN],
+    keys: &[],
     run,
 };
 

@@ -15,6 +15,7 @@ pub const COMMAND: Command = Command {
 COMMAND is the name of a command. It prints what yohrundel COMMAND --help
 prints. Without COMMAND it prints what yohrundel --help prints.",
     options: &[],
+    keys: &[],
     run,
 };
 

@@ -43,13 +43,24 @@ of a file may begin with a hyphen after it.
 /// The help of one command.
 pub fn of_command(command: &Command) -> String {
     let (usage, details) = (command.usage(), command.details);
-    let options = options(&command.table());
-    format!("usage: yohrundel {usage}\n\n{details}\n\n{options}")
+    let (options, keys) = (options(&command.table()), keys(command));
+    format!("usage: yohrundel {usage}\n\n{details}\n\n{options}{keys}")
 }
 
 fn options(table: &[OptionSpec]) -> String {
     let rows = table.iter().map(|option| (option.usage(), option.help));
     format!("Options:\n{}", rows_of(rows.collect()))
+}
+
+fn keys(command: &Command) -> String {
+    if command.keys.is_empty() {
+        return String::new();
+    }
+    let rows = command
+        .keys
+        .iter()
+        .map(|(key, help)| (key.to_string(), *help));
+    format!("\nKeys of --json:\n{}", rows_of(rows.collect()))
 }
 
 fn statuses() -> String {

@@ -19,6 +19,7 @@ input. Out writes all first bytes of its words to standard output, then all
 second, third and fourth. Back restores the image from them. A file whose length
 is no multiple of 4 is declined.",
     options: &[],
+    keys: &[],
     run,
 };
 

@@ -1,27 +1,38 @@
 //! Words and quads of a bank by their numbers in their page, and the page by its number among those of its kind.
 
+use std::fmt::{self, Display, Formatter};
+
 use yohrundel::{Decline, Geometry};
 
-/// The word of an index in a bank.
-pub fn word_name(geometry: Geometry, index: usize) -> Result<String, Decline> {
-    let (page, word) = page_and_word(geometry, index)?;
-    Ok(format!("word {word} of {page}"))
+/// Where a word stands in a bank. It is printed as its name.
+pub struct WordPlace {
+    /// The kind of its page: `boot` or `program`.
+    pub kind: &'static str,
+    pub page: usize,
+    pub word: usize,
 }
 
-/// The quad of a word.
-pub fn quad_name(geometry: Geometry, index: usize) -> Result<String, Decline> {
-    let (page, word) = page_and_word(geometry, index)?;
-    let quad = word / 4;
-    Ok(format!("quad {quad} of {page}"))
+impl Display for WordPlace {
+    fn fmt(&self, to: &mut Formatter) -> fmt::Result {
+        let WordPlace { kind, page, word } = self;
+        write!(to, "word {word} of {kind} page {page}")
+    }
 }
 
-/// The name of a word's page, and the word's number in it.
-fn page_and_word(geometry: Geometry, index: usize) -> Result<(String, usize), Decline> {
+/// The place of the word of an index in a bank.
+pub fn word_place(geometry: Geometry, index: usize) -> Result<WordPlace, Decline> {
     let page_words = geometry.page_words()?;
-    let (page, word) = (index / page_words, index % page_words);
-    let name = match page.checked_sub(geometry.b as usize) {
-        None => format!("boot page {page}"),
-        Some(page) => format!("program page {page}"),
+    let (number, word) = (index / page_words, index % page_words);
+    let (kind, page) = match number.checked_sub(geometry.b as usize) {
+        None => ("boot", number),
+        Some(page) => ("program", page),
     };
-    Ok((name, word))
+    Ok(WordPlace { kind, page, word })
+}
+
+/// The name of the quad of a word.
+pub fn quad_name(geometry: Geometry, index: usize) -> Result<String, Decline> {
+    let WordPlace { kind, page, word } = word_place(geometry, index)?;
+    let quad = word / 4;
+    Ok(format!("quad {quad} of {kind} page {page}"))
 }

@@ -5,6 +5,7 @@ use yohrundel::plan;
 use crate::arguments::{formed, Arguments};
 use crate::command::{Command, First};
 use crate::failure::{Answer, Failure};
+use crate::json::{object, JSON};
 use crate::times::{read_minute, weekday_and_time, WEEK};
 use crate::windows::{read_window, Window, WINDOW_WORDS};
 use crate::wording::counted;
@@ -31,7 +32,15 @@ and an update may end when the window ends.
 It prints the smallest wait in minutes after which a whole update lies in one
 window, and the weekday and time then. Numbers that are out of range and windows
 that are all too short are declined.",
-    options: &[],
+    options: &[JSON],
+    keys: &[
+        ("wait_minutes", "the smallest wait in minutes"),
+        (
+            "start_minute",
+            "the minute of the week when the update starts",
+        ),
+        ("start", "the weekday and time then, as Sat 00:00"),
+    ],
     run,
 };
 
@@ -44,6 +53,14 @@ fn run(mut arguments: Arguments) -> Answer {
     let wait = plan(now, duration, &windows)?;
     let minute = (now + wait) % WEEK;
     let start = weekday_and_time(minute);
+    if arguments.is_given(&JSON) {
+        let planned = object([
+            ("wait_minutes", wait.into()),
+            ("start_minute", minute.into()),
+            ("start", start.into()),
+        ]);
+        return Ok(planned.line());
+    }
     let minutes = counted(wait, "minute");
     Ok(format!("Wait {minutes}, until {start}.\n").into())
 }

@@ -35,6 +35,7 @@ With --sizes a script may be of any length.
 A script of yohrundel script ends on its sign in the new bank. A play checks
 nothing that an update start checks: on any other sign nothing is promised.",
     options: &[SIZES, BANK1, BANK2, IMAGE, RESTART, SAVE1, SAVE2],
+    keys: &[],
     run,
 };
 

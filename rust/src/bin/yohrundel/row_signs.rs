@@ -9,7 +9,7 @@ pub struct Row {
     /// The sign as each was before its update.
     sign: Sign,
     image: Vec<u32>,
-    k: u32,
+    pub k: u32,
     pub signs: Vec<SignRecord>,
     pub standing: Standing,
     store: Vec<u32>,

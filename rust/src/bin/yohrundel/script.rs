@@ -40,6 +40,7 @@ or NVMCON2, FORM is plain, clear, set or invert, VALUE a hexadecimal word.
 yohrundel script --make FILE makes the script of such a text. What follows a #
 in it is a comment, and a line may be blank. FILE may be - for standard input.",
     options: &[BANK1, BANK2, WORK, LIST, MAKE],
+    keys: &[],
     run,
 };
 

@@ -23,6 +23,7 @@ It prints a line for each page, bank 1 then bank 2, boot then program: the bank,
 B or P, the page of its kind, L or U for its side, 1 if protected else 0, and
 how many of its quads aren't blank.",
     options: &[NVMCON, NVMPWP, NVMBWP],
+    keys: &[],
     run,
 };
 

@@ -32,6 +32,7 @@ Fewer may give it too: two records that undo each other both stay where one of
 them alone would hide NUMBER.
 The play is that of yohrundel play, on its sign where no option names another.",
     options: &[SIZES, BANK1, BANK2, SCRIPT],
+    keys: &[],
     run,
 };
 

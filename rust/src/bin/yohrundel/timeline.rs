@@ -18,7 +18,7 @@ const STATES: [char; 4] = ['w', '#', '.', ' '];
 const DIGITS: &[u8] = b"0123456789abcdefghijklmnopqrstuvw";
 
 pub struct Timeline {
-    calls: u32,
+    pub calls: u32,
     /// For each column and sign, after how many calls it was in each state.
     columns: Vec<Vec<[u32; 4]>>,
     /// For each column, the most operations that ran together.
@@ -100,12 +100,22 @@ impl Timeline {
         )
     }
 
+    /// The most operations that ran together.
+    pub fn most_together(&self) -> usize {
+        self.together.iter().max().copied().unwrap_or(0)
+    }
+
+    /// The longest wait in calls, and whose it was; none where no sign waited.
+    pub fn longest_wait(&self) -> Option<(u32, usize)> {
+        Some(self.longest).filter(|(calls, _)| *calls > 0)
+    }
+
     /// The most operations that ran together, and who waited longest.
     pub fn summary(&self) -> String {
-        let most = self.together.iter().max().unwrap_or(&0);
-        let waited = match self.longest {
-            (0, _) => String::from("No sign waited."),
-            (calls, sign) => {
+        let most = self.most_together();
+        let waited = match self.longest_wait() {
+            None => String::from("No sign waited."),
+            Some((calls, sign)) => {
                 let calls = counted(calls, "call");
                 format!("The longest wait was {calls}, of sign {sign}.")
             }

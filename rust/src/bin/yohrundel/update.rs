@@ -29,6 +29,7 @@ Beside an update a probe may read registers while the key step is 0 or 1: such a
 read changes nothing. A read at key step 2 or 3 closes the key and loses a store
 of the update; see docs/POWER-FAIL.md.",
     options: &[],
+    keys: &[],
     run,
 };
 

@@ -1,0 +1,212 @@
+//! What a row of signs did and what each sign runs then, as text and as an object.
+
+use yohrundel::{Bank, Decline, SignRecord};
+
+use crate::json::{object, Json};
+use crate::row_signs::Row;
+use crate::timeline::Timeline;
+use crate::wording::counted;
+
+/// How the calls of a row end.
+#[derive(Clone, Copy)]
+pub enum Ending {
+    Cut,
+    Idle,
+    NotIdle,
+}
+
+/// What stands in the bank that a sign runs.
+#[derive(Clone, Copy)]
+enum Runs {
+    Old,
+    New,
+    Neither,
+    Nothing,
+}
+
+/// A sign after the row.
+struct SignEnd {
+    place: u32,
+    bank: Option<Bank>,
+    runs: Runs,
+}
+
+/// What a row did, and its signs after it.
+pub struct Report {
+    k: u32,
+    /// The actions of each update.
+    total: u32,
+    timeline: Timeline,
+    ending: Ending,
+    signs: Vec<SignEnd>,
+}
+
+/// The keys of a report's object.
+pub const KEYS: &[(&str, &str)] = &[
+    ("supply_bears", "how many operations the supply bears: K"),
+    ("actions", "how many actions each update has"),
+    ("calls", "how many calls were made"),
+    (
+        "end",
+        "cut where the supply failed after these calls, else idle or not idle",
+    ),
+    ("most_together", "the most operations that ran together"),
+    (
+        "longest_wait_calls",
+        "the longest wait, 0 where no sign waited",
+    ),
+    (
+        "longest_wait_sign",
+        "whose it was, null where no sign waited",
+    ),
+    (
+        "signs",
+        "an object for each sign, after a power-on reset and start-up of all",
+    ),
+    ("signs[].sign", "its number, from 0"),
+    ("signs[].place", "how many of its actions were done"),
+    ("signs[].bank", "the bank that runs, null where none does"),
+    (
+        "signs[].runs",
+        "old for the old bank with every word, new for exactly the new one, neither, or none",
+    ),
+];
+
+impl Report {
+    /// Resets the signs of a row and starts them up.
+    pub fn restart(row: &mut Row, timeline: Timeline, ending: Ending) -> Result<Report, Decline> {
+        row.restart()?;
+        Ok(Report {
+            k: row.k,
+            total: row.total,
+            timeline,
+            ending,
+            signs: row
+                .signs
+                .iter()
+                .map(|sign| SignEnd::of(row, sign))
+                .collect(),
+        })
+    }
+
+    /// The report for people.
+    pub fn text(&self) -> String {
+        let (head, timeline) = (self.head(), &self.timeline);
+        let (picture, legend, summary) =
+            (timeline.picture(), timeline.legend(), timeline.summary());
+        let (calls, end) = (counted(timeline.calls, "call"), self.ending.sentence());
+        let mut text = format!(
+            "{head}\n{picture}\n{legend}\n{summary}\n\
+             After {calls} {end}. After a power-on reset and start-up of all:\n"
+        );
+        for (number, sign) in self.signs.iter().enumerate() {
+            let (place, runs) = (sign.place, sign.runs.sentence());
+            text += &format!("sign {number:<2} at place {place}: {runs}\n");
+        }
+        text
+    }
+
+    fn head(&self) -> String {
+        let (count, k, actions) = (self.signs.len(), self.k, counted(self.total, "action"));
+        let signs = if count == 1 {
+            "sign hangs"
+        } else {
+            "signs hang"
+        };
+        let operations = if k == 1 {
+            "operation at a time"
+        } else {
+            "operations together"
+        };
+        format!(
+            "{count} {signs} on a supply that bears {k} {operations}.\n\
+             Each update is accepted and has {actions}.\n"
+        )
+    }
+
+    /// The report for programs.
+    pub fn json(&self) -> Json {
+        let wait = self.timeline.longest_wait();
+        let signs = self.signs.iter().enumerate();
+        let signs: Vec<Json> = signs.map(|(number, sign)| sign.json(number)).collect();
+        object([
+            ("supply_bears", self.k.into()),
+            ("actions", self.total.into()),
+            ("calls", self.timeline.calls.into()),
+            ("end", self.ending.word().into()),
+            ("most_together", self.timeline.most_together().into()),
+            (
+                "longest_wait_calls",
+                wait.map_or(0, |(calls, _)| calls).into(),
+            ),
+            ("longest_wait_sign", wait.map(|(_, sign)| sign).into()),
+            ("signs", signs.into()),
+        ])
+    }
+}
+
+impl SignEnd {
+    fn of(row: &Row, sign: &SignRecord) -> SignEnd {
+        let (kept, exact) = row.kept_and_exact(sign);
+        let bank = sign.device.running_bank();
+        let runs = match bank {
+            Some(Bank::One) if kept => Runs::Old,
+            Some(Bank::Two) if kept && exact => Runs::New,
+            Some(_) => Runs::Neither,
+            None => Runs::Nothing,
+        };
+        SignEnd {
+            place: sign.place,
+            bank,
+            runs,
+        }
+    }
+
+    fn json(&self, number: usize) -> Json {
+        object([
+            ("sign", number.into()),
+            ("place", self.place.into()),
+            ("bank", self.bank.map(Bank::number).into()),
+            ("runs", self.runs.word().into()),
+        ])
+    }
+}
+
+impl Ending {
+    /// The rest of a sentence that begins with the calls.
+    fn sentence(self) -> &'static str {
+        match self {
+            Ending::Cut => "the supply fails",
+            Ending::Idle => "the row is idle",
+            Ending::NotIdle => "the row is not idle",
+        }
+    }
+
+    fn word(self) -> &'static str {
+        match self {
+            Ending::Cut => "cut",
+            Ending::Idle => "idle",
+            Ending::NotIdle => "not idle",
+        }
+    }
+}
+
+impl Runs {
+    fn sentence(self) -> &'static str {
+        match self {
+            Runs::Old => "bank 1 runs, the old one, with every word",
+            Runs::New => "bank 2 runs, exactly the new one",
+            Runs::Neither => "a bank runs that is neither the old one nor the new",
+            Runs::Nothing => "no bank runs",
+        }
+    }
+
+    fn word(self) -> &'static str {
+        match self {
+            Runs::Old => "old",
+            Runs::New => "new",
+            Runs::Neither => "neither",
+            Runs::Nothing => "none",
+        }
+    }
+}
