@@ -119,65 +119,71 @@ fn edges_of_the_ranges() {
     assert!(!compare(random, 5, 60, &[window(0, 60); MOST_WINDOWS + 1]));
 }
 
+const WRONG_TIMES: [&str; 18] = [
+    "",
+    "Mo",
+    "Mon",
+    "Mon :00",
+    "Mon 7:0",
+    "Mon 7:000",
+    "Mon 007:00",
+    "Mon 24:00",
+    "Mon 07:60",
+    "Mon 07",
+    "Mon  07:00",
+    "Mon_07:00",
+    "Mon 07:00:00",
+    "Mon +7:00",
+    "Day 07:00",
+    "07:00",
+    "4294967296",
+    "M\u{f6}n07:00",
+];
+
+const WRONG_WINDOWS: [&str; 22] = [
+    "",
+    "0",
+    ":",
+    "0:",
+    ":1",
+    "0:x",
+    "Mon-22:30",
+    "Mon-22:30:",
+    "0:1:1",
+    "22:00-06:00",
+    "1320-06:00",
+    "Mon-22:00-",
+    "Mon-22:00-360",
+    "Mon-22:00-6",
+    "Mon-22:00-06:60",
+    "Mon-24:00-06:00",
+    "Mon-22:00-24:01",
+    "Mon-22:00-Tue",
+    "Mon-22:00-Day-06:00",
+    "Mon-22:00-06:00-07:00",
+    "Mon-22:00 06:00",
+    "Mon-22:00--06:00",
+];
+
+/// The reason of a plan that is not understood.
+fn wrong(ran: Ran, reason: &str) {
+    let expected = format!("plan: {reason}; try yohrundel plan --help");
+    assert_eq!(ran.reason(2), expected);
+}
+
 #[test]
 fn times_that_are_not_understood() {
-    for time in [
-        "",
-        "Mo",
-        "Mon",
-        "Mon :00",
-        "Mon 7:0",
-        "Mon 7:000",
-        "Mon 007:00",
-        "Mon 24:00",
-        "Mon 07:60",
-        "Mon 07",
-        "Mon  07:00",
-        "Mon_07:00",
-        "Mon 07:00:00",
-        "Mon +7:00",
-        "Day 07:00",
-        "07:00",
-        "4294967296",
-        "M\u{f6}n07:00",
-    ] {
-        let reason = format!("plan: NOW is {time:?}, not a minute of the week or as Mon-22:30");
-        let ran = planned(time, "1", &["0:1".into()]);
-        assert_eq!(
-            ran.reason(2),
-            format!("{reason}; try yohrundel plan --help")
-        );
+    for time in WRONG_TIMES {
+        let reason = format!("NOW is {time:?}, not a minute of the week or as Mon-22:30");
+        wrong(planned(time, "1", &["0:1".into()]), &reason);
     }
-    for text in [
-        "",
-        "0",
-        ":",
-        "0:",
-        ":1",
-        "0:x",
-        "Mon-22:30",
-        "Mon-22:30:",
-        "0:1:1",
-        "22:00-06:00",
-        "1320-06:00",
-        "Mon-22:00-",
-        "Mon-22:00-360",
-        "Mon-22:00-6",
-        "Mon-22:00-06:60",
-        "Mon-24:00-06:00",
-        "Mon-22:00-24:01",
-        "Mon-22:00-Tue",
-        "Mon-22:00-Day-06:00",
-        "Mon-22:00-06:00-07:00",
-        "Mon-22:00 06:00",
-        "Mon-22:00--06:00",
-    ] {
+}
+
+#[test]
+fn windows_that_are_not_understood() {
+    for text in WRONG_WINDOWS {
         let words = "as Mon-22:00-06:00, Fri-22:00-Mon-06:00 or 1350:120";
-        let reason = format!("plan: WINDOW is {text:?}, not {words}");
-        let ran = planned("0", "1", &["0:1".into(), text.into()]);
-        assert_eq!(
-            ran.reason(2),
-            format!("{reason}; try yohrundel plan --help")
-        );
+        let reason = format!("WINDOW is {text:?}, not {words}");
+        wrong(planned("0", "1", &["0:1".into(), text.into()]), &reason);
     }
 }
