@@ -45,6 +45,9 @@
 extern "C" {
 #endif
 
+/* CHANGELOG.md says what changed since the version before. */
+#define YOHRUNDEL_VERSION "0.2.0"
+
 /* Words of a page, of a bank or image, and of the longest SRAM. */
 #define YOHRUNDEL_PAGE_WORDS(q) (32 * (q))
 #define YOHRUNDEL_BANK_WORDS(q, b, p) (((b) + (p)) * YOHRUNDEL_PAGE_WORDS(q))

@@ -88,6 +88,17 @@ fn numbers() {
     assert_eq!(header(), expected.collect::<BTreeMap<String, u32>>());
 }
 
+/// One version: that of Cargo.toml, of the header and of the first section of CHANGELOG.md.
+#[test]
+fn version() {
+    let version = env!("CARGO_PKG_VERSION");
+    let defined = format!("#define YOHRUNDEL_VERSION \"{version}\"\n");
+    assert!(HEADER.contains(&defined));
+    let changes = include_str!("../../CHANGELOG.md");
+    let first = changes.lines().find_map(|line| line.strip_prefix("## "));
+    assert_eq!(first, Some(version));
+}
+
 /// The crate's declarations of the archives' functions that a device goes through.
 const DECLARED: [&str; 2] = [
     include_str!("../src/ffi.rs"),

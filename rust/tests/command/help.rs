@@ -115,7 +115,11 @@ fn help_of_no_command() {
 
 #[test]
 fn version() {
-    let expected = format!("yohrundel {}\n", env!("CARGO_PKG_VERSION"));
+    let (version, commit) = (env!("CARGO_PKG_VERSION"), env!("YOHRUNDEL_COMMIT"));
+    let expected = match commit {
+        "" => format!("yohrundel {version}\n"),
+        _ => format!("yohrundel {version} ({commit})\n"),
+    };
     assert_eq!(run(&["--version"]).printed(), expected);
     assert_eq!(run(&["-V"]).printed(), expected);
 }

@@ -105,9 +105,13 @@ fn wrapped(words: &str, columns: usize) -> Vec<String> {
     lines
 }
 
-/// The version, as `--version` prints it.
+/// The version, as `--version` prints it: with the commit, where the command was built in a repository.
 pub fn version() -> String {
-    format!("yohrundel {}\n", env!("CARGO_PKG_VERSION"))
+    let version = env!("CARGO_PKG_VERSION");
+    match env!("YOHRUNDEL_COMMIT") {
+        "" => format!("yohrundel {version}\n"),
+        commit => format!("yohrundel {version} ({commit})\n"),
+    }
 }
 
 #[cfg(test)]
