@@ -3,6 +3,7 @@
 //! Every rule is written in the most direct form of the paper's sentence.
 
 pub mod cases;
+pub mod clauses;
 pub mod cuts;
 pub mod device;
 pub mod flash;
