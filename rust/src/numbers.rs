@@ -18,6 +18,21 @@ pub mod register {
     pub const NVMBWP: u32 = 9;
     /// NVMCON2.
     pub const NVMCON2: u32 = 10;
+
+    /// Their names, by number.
+    pub const NAMES: [&str; 11] = [
+        "NVMCON",
+        "NVMKEY",
+        "NVMADDR",
+        "NVMDATA0",
+        "NVMDATA1",
+        "NVMDATA2",
+        "NVMDATA3",
+        "NVMSRCADDR",
+        "NVMPWP",
+        "NVMBWP",
+        "NVMCON2",
+    ];
 }
 
 /// Forms of a store.

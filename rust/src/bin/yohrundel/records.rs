@@ -3,7 +3,7 @@
 use std::str::SplitWhitespace;
 
 use yohrundel::form::{CLEAR, INVERT, PLAIN, SET};
-use yohrundel::register::{NVMADDR, NVMBWP, NVMCON, NVMCON2, NVMDATA0, NVMKEY, NVMPWP, NVMSRCADDR};
+use yohrundel::register;
 
 use crate::arguments::hexadecimal;
 use crate::resets::{kind_name, read_kind, KIND_WORDS};
@@ -19,20 +19,6 @@ const RESET: u8 = 2;
 /// A name and the number that a record has for it.
 type Named = (&'static str, u32);
 
-const REGISTERS: [Named; 11] = [
-    ("NVMCON", NVMCON),
-    ("NVMKEY", NVMKEY),
-    ("NVMADDR", NVMADDR),
-    ("NVMDATA0", NVMDATA0),
-    ("NVMDATA1", NVMDATA0 + 1),
-    ("NVMDATA2", NVMDATA0 + 2),
-    ("NVMDATA3", NVMDATA0 + 3),
-    ("NVMSRCADDR", NVMSRCADDR),
-    ("NVMPWP", NVMPWP),
-    ("NVMBWP", NVMBWP),
-    ("NVMCON2", NVMCON2),
-];
-
 const FORMS: [Named; 4] = [
     ("plain", PLAIN),
     ("clear", CLEAR),
@@ -46,7 +32,8 @@ pub fn line(record: &[u8]) -> Option<String> {
     let value = u32::from_le_bytes(value);
     match kind {
         STORE => {
-            let (register, form) = (name(&REGISTERS, second)?, name(&FORMS, form)?);
+            let register = register::NAMES.get(usize::from(second))?;
+            let form = name(&FORMS, form)?;
             Some(format!("store {register} {form} 0x{value:08X}"))
         }
         STEP => Some(String::from("step")),
@@ -82,13 +69,16 @@ pub fn record(line: &str) -> Result<Option<[u8; RECORD]>, String> {
 
 fn store(words: &mut SplitWhitespace) -> Result<[u8; RECORD], String> {
     let names = "NVMCON, NVMKEY, NVMADDR, NVMDATA0 to 3, NVMSRCADDR, NVMPWP, NVMBWP or NVMCON2";
-    let register = form(words, "the register", names, |word| {
-        number(&REGISTERS, word)
-    })?;
+    let register = form(words, "the register", names, register_number)?;
     let names = "plain, clear, set or invert";
     let stored = form(words, "the form", names, |word| number(&FORMS, word))?;
     let value = form(words, "the value", "a hexadecimal word", hexadecimal)?;
     Ok(bytes(STORE, register, stored, value))
+}
+
+fn register_number(word: &str) -> Option<u32> {
+    let number = register::NAMES.iter().position(|name| *name == word);
+    number.map(|number| number as u32)
 }
 
 fn number(all: &[Named], word: &str) -> Option<u32> {
