@@ -2,7 +2,7 @@
 //!
 //! A sign has a [`Device`] and two banks of words, whose sizes its [`Geometry`] gives. Each call takes them, does its work, or is
 //! declined by a [`Decline`]; a declined call leaves everything as it was, but for the scratch banks of [`smallest`]. Any numbers,
-//! lengths and contents are taken.
+//! lengths and contents are taken. [`culprit`] says what a call was declined for.
 //!
 //! ```
 //! use yohrundel::{reset, start_up, update_start, Bank, Decline, Device, Geometry, Reason};
@@ -27,6 +27,7 @@
 
 mod bank_calls;
 mod compare;
+pub mod culprit;
 mod cut_start_up;
 mod decline;
 mod device;
