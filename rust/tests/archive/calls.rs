@@ -44,31 +44,34 @@ fn directed_cases() {
     report.finish(format_args!("{} cases", all.len()));
 }
 
-/// The stored cases of the program `cases`, without the lines that are none.
-#[test]
-fn stored_cases() {
-    let report = Report::new(String::from("stored calls"));
+/// The stored cases of the program `cases` that are calls: the left side of each line and what it expects.
+pub fn stored() -> Vec<(String, String)> {
     let folder = Path::new(env!("CARGO_MANIFEST_DIR")).join("tests/cases");
-    let mut count = 0;
+    let mut cases = Vec::new();
     for entry in std::fs::read_dir(folder).expect("the stored cases") {
         let path = entry.expect("a stored file").path();
         if path.extension().is_some_and(|extension| extension == "txt") {
-            count += check_file(&path);
+            let text = std::fs::read_to_string(path).expect("stored cases");
+            cases.extend(text.lines().filter_map(stored_case));
         }
     }
-    assert!(count > 0);
-    report.finish(format_args!("{count} cases"));
+    cases
 }
 
-fn check_file(path: &Path) -> usize {
-    let text = std::fs::read_to_string(path).expect("stored cases");
-    let parted = text.lines().map(|line| line.split_once(" | "));
-    let cases = parted.map(|line| line.expect("a bar"));
-    let mut count = 0;
-    let calls = cases.filter(|(inputs, expected)| is_call(inputs) && *expected != "?");
-    for (inputs, expected) in calls {
-        check(inputs, expected);
-        count += 1;
+/// None for a line that is no case.
+fn stored_case(line: &str) -> Option<(String, String)> {
+    let (left, expected) = line.split_once(" | ").expect("a bar");
+    let is_case = is_call(left) && expected != "?";
+    is_case.then(|| (left.to_string(), expected.to_string()))
+}
+
+#[test]
+fn stored_cases() {
+    let report = Report::new(String::from("stored calls"));
+    let cases = stored();
+    for (left, expected) in &cases {
+        check(left, expected);
     }
-    count
+    assert!(!cases.is_empty());
+    report.finish(format_args!("{} cases", cases.len()));
 }

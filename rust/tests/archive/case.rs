@@ -9,6 +9,7 @@ use yohrundel::*;
 use crate::answers::{device_and_event, device_numbers, text, Answer};
 use crate::bank_cases::{flash_read_case, play_case, reset_case, step_case, turn_case};
 use crate::byte_cases::{lanes_case, sheet_case, write_script_case};
+use crate::culprits;
 use crate::inputs::Inputs;
 use crate::rows::{row_run_case, schedule_case};
 use crate::rules::{self, possible, protected};
@@ -23,13 +24,14 @@ pub fn is_call(left: &str) -> bool {
     !NO_CALLS.contains(&name)
 }
 
-/// Fails where the archive gives something else for the left side of a line than the model.
+/// Fails where the archive gives something else for the left side of a line than the model, or the crate names another culprit of its decline.
 pub fn check(left: &str, expected: &str) {
     let given = answer(left);
     assert!(
         given == expected,
         "\n{left} | {expected}\nthe archive gave: {given}\n"
     );
+    culprits::check(left, expected);
 }
 
 /// What stands right of the bar, by the archive.
