@@ -458,7 +458,8 @@ typedef struct yohrundel_page_sheet_answer {
  * Since the device record has launched, these calls have new symbols: an object file that was compiled with the record as it was before
  * does not link with this archive, where its device would be too short. The flash read has another one since it is lent the SRAM, may
  * change the banks and gives a device. Programs call them by their names, and are compiled again. A call that came later, as
- * yohrundel_write_script, yohrundel_smallest and yohrundel_schedule, has its name as its symbol.
+ * yohrundel_write_script, yohrundel_smallest and yohrundel_schedule, has its name as its symbol. yohrundel_turn has none: it stands in this
+ * header.
  */
 #define yohrundel_power_on yohrundel_power_on_2
 #define yohrundel_store yohrundel_store_2
@@ -469,7 +470,6 @@ typedef struct yohrundel_page_sheet_answer {
 #define yohrundel_step yohrundel_step_2
 #define yohrundel_reset yohrundel_reset_2
 #define yohrundel_update_start yohrundel_update_start_2
-#define yohrundel_turn yohrundel_turn_2
 #define yohrundel_turn_lent yohrundel_turn_lent_2
 #define yohrundel_play yohrundel_play_2
 #define yohrundel_play_length yohrundel_play_length_2
@@ -572,19 +572,10 @@ yohrundel_update_start_answer yohrundel_update_start(
     const uint32_t *image, size_t image_words);
 
 /*
- * One turn: the action of its place, one store or one step. The first place is 0, each later one is that of the answer before; done is
- * said at the total. After a reset the update begins again with an update start. Declines 1, 2, 3, 13, and 5 or 6 where the place's
- * action is declined.
+ * One turn, with the device lent and changed in place: the action of its place, one store or one step. The first place is 0, each later
+ * one is that of the answer before; done is said at the total. After a reset the update begins again with an update start. Declines 1, 2,
+ * 3, 13, and 5 or 6 where the place's action is declined.
  */
-yohrundel_turn_answer yohrundel_turn(
-    yohrundel_geometry g, yohrundel_device d,
-    uint32_t *one, size_t one_words,
-    uint32_t *two, size_t two_words,
-    const uint32_t *image, size_t image_words,
-    const uint32_t *sram, size_t sram_words,
-    uint32_t place);
-
-/* The same turn with the device lent and changed in place: the call of libyohrundel_lent.a. */
 yohrundel_turn_outcome yohrundel_turn_lent(
     yohrundel_geometry g, yohrundel_device *d,
     uint32_t *one, size_t one_words,
@@ -592,6 +583,22 @@ yohrundel_turn_outcome yohrundel_turn_lent(
     const uint32_t *image, size_t image_words,
     const uint32_t *sram, size_t sram_words,
     uint32_t place);
+
+/* The same turn with the device by value: yohrundel_turn_lent on a copy of it. Declines as that does. */
+static inline yohrundel_turn_answer yohrundel_turn(
+    yohrundel_geometry g, yohrundel_device d,
+    uint32_t *one, size_t one_words,
+    uint32_t *two, size_t two_words,
+    const uint32_t *image, size_t image_words,
+    const uint32_t *sram, size_t sram_words,
+    uint32_t place)
+{
+    yohrundel_turn_answer answer;
+    answer.device = d;
+    answer.outcome = yohrundel_turn_lent(
+        g, &answer.device, one, one_words, two, two_words, image, image_words, sram, sram_words, place);
+    return answer;
+}
 
 /*
  * ---- the call for a row of signs on one supply

@@ -5,6 +5,7 @@ use std::fmt;
 
 /// Why a call is declined, by the paper's numbers. Where several apply a call gives the lowest.
 #[derive(Clone, Copy, Debug, PartialEq, Eq, Hash)]
+#[repr(u32)]
 pub enum Decline {
     /// Q, B or P is outside its list or range.
     Geometry = 1,

@@ -121,6 +121,23 @@ impl Device {
         Device { launched, ..self }
     }
 
+    /// A copy made word by word. One of the whole record is made by moves of 16 bytes of which the last two overlap, and the next load
+    /// of what both stored waits for them.
+    #[inline]
+    pub(crate) fn by_words(&self) -> Device {
+        let [data0, data1, data2, data3] = self.nvmdata;
+        let [launched0, launched1, launched2, launched3] = self.launched.nvmdata;
+        let launched = Operands {
+            nvmdata: [launched0, launched1, launched2, launched3],
+            ..self.launched
+        };
+        Device {
+            nvmdata: [data0, data1, data2, data3],
+            launched,
+            ..*self
+        }
+    }
+
     /// Whether an operation runs: WR = 1.
     pub fn operation_runs(&self) -> bool {
         self.nvmcon & WR != 0

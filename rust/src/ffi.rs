@@ -103,12 +103,6 @@ pub(crate) struct TurnOutcome {
 }
 
 #[repr(C)]
-pub(crate) struct TurnAnswer {
-    pub device: Device,
-    pub outcome: TurnOutcome,
-}
-
-#[repr(C)]
 pub(crate) struct PlayAnswer {
     pub decline: u32,
     pub bytes: usize,
@@ -199,21 +193,6 @@ extern "C" {
         image: *const u32,
         image_words: usize,
     ) -> UpdateStartAnswer;
-
-    #[link_name = "yohrundel_turn_2"]
-    fn yohrundel_turn(
-        g: Geometry,
-        d: Device,
-        one: *mut u32,
-        one_words: usize,
-        two: *mut u32,
-        two_words: usize,
-        image: *const u32,
-        image_words: usize,
-        sram: *const u32,
-        sram_words: usize,
-        place: u32,
-    ) -> TurnAnswer;
 
     #[link_name = "yohrundel_turn_lent_2"]
     fn yohrundel_turn_lent(
@@ -364,38 +343,6 @@ pub(crate) fn update_start(
     let (image, image_words) = (image.as_ptr(), image.len());
     // SAFETY: each pointer and its count are a slice's; nothing is written.
     unsafe { yohrundel_update_start(g, d, one, one_words, two, two_words, image, image_words) }
-}
-
-#[inline]
-pub(crate) fn turn(
-    g: Geometry,
-    d: Device,
-    one: &mut [u32],
-    two: &mut [u32],
-    image: &[u32],
-    sram: &[u32],
-    place: u32,
-) -> TurnAnswer {
-    let (one, one_words) = (one.as_mut_ptr(), one.len());
-    let (two, two_words) = (two.as_mut_ptr(), two.len());
-    let (image, image_words) = (image.as_ptr(), image.len());
-    let (sram, sram_words) = (sram.as_ptr(), sram.len());
-    // SAFETY: each pointer and its count are a slice's; only the banks are written, which are borrowed for it.
-    unsafe {
-        yohrundel_turn(
-            g,
-            d,
-            one,
-            one_words,
-            two,
-            two_words,
-            image,
-            image_words,
-            sram,
-            sram_words,
-            place,
-        )
-    }
 }
 
 #[inline]

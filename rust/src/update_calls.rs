@@ -32,6 +32,17 @@ pub struct Turned {
 }
 
 /// Whether an update may start, and how many actions it has. It changes nothing.
+///
+/// # Errors
+///
+/// - [`Decline::Geometry`]: Q, B or P is out of range.
+/// - [`Decline::Length`]: a bank or the image has another length than [`Geometry::bank_words`].
+/// - [`Decline::Device`]: the device record is impossible.
+/// - [`Decline::Running`]: an operation runs.
+/// - [`Decline::Sequence`]: the lower-alias bank's sequence is invalid, a reset would choose the other bank, PFSWAP differs from BFSWAP, or
+///   the other bank's sequence word is invalid with no bit position at 1 in both halves.
+/// - [`Decline::LastSequence`]: T is 65,535.
+/// - [`Decline::Protection`]: UBWPULOCK is 0 or PWP at least P×128×Q.
 pub fn update_start(
     geometry: Geometry,
     device: Device,
@@ -48,6 +59,15 @@ pub fn update_start(
 }
 
 /// One turn: the action of its place, one store or one step.
+///
+/// # Errors
+///
+/// - [`Decline::Geometry`]: Q, B or P is out of range.
+/// - [`Decline::Length`]: a bank or the image has another length than [`Geometry::bank_words`], or the SRAM more than 16,384 words.
+/// - [`Decline::Device`]: the device record is impossible.
+/// - [`Decline::Running`]: the place's action is a store that the running operation does not allow.
+/// - [`Decline::Idle`]: the place's action is a step, and no operation runs.
+/// - [`Decline::Place`]: the place exceeds the total.
 #[inline]
 pub fn turn(
     geometry: Geometry,
@@ -58,14 +78,22 @@ pub fn turn(
     sram: &[u32],
     place: u32,
 ) -> Result<Turned, Decline> {
-    let answer = ffi::turn(geometry, device, one, two, image, sram, place);
-    Ok(Turned {
-        device: answer.device,
-        outcome: outcome(answer.outcome)?,
-    })
+    let mut lent = device.by_words();
+    let outcome = turn_lent(geometry, &mut lent, one, two, image, sram, place)?;
+    let device = lent.by_words();
+    Ok(Turned { device, outcome })
 }
 
 /// The same turn with the device lent and changed in place.
+///
+/// # Errors
+///
+/// - [`Decline::Geometry`]: Q, B or P is out of range.
+/// - [`Decline::Length`]: a bank or the image has another length than [`Geometry::bank_words`], or the SRAM more than 16,384 words.
+/// - [`Decline::Device`]: the device record is impossible.
+/// - [`Decline::Running`]: the place's action is a store that the running operation does not allow.
+/// - [`Decline::Idle`]: the place's action is a step, and no operation runs.
+/// - [`Decline::Place`]: the place exceeds the total.
 #[inline]
 pub fn turn_lent(
     geometry: Geometry,
