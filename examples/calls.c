@@ -134,16 +134,11 @@ static void waiting_call(yohrundel_device d)
     print_and_erase_quad();
 }
 
-/* The bank that goes lower, and why; a declined reset has compared nothing. */
-static void compare_calls(void)
+/* The bank that goes lower, and why. */
+static void compare_call(void)
 {
     const yohrundel_compare_answer compared = yohrundel_compare(0xFFFE0001, 0xFFFFFFFF);
     printf("compare_reason %" PRIu32 " %" PRIu32 "\n", compared.bank, compared.reason);
-
-    const yohrundel_mask none = {{0, 0, 0, 0}};
-    const yohrundel_reset_answer refused =
-        yohrundel_reset(GEOMETRY, yohrundel_power_on(), one, WORDS, two, WORDS, NULL, 0, 3, none);
-    expect(refused.decline == YOHRUNDEL_DECLINE_RESET_KIND && refused.reason == YOHRUNDEL_REASON_NOT_COMPARED, "a declined reset");
 }
 
 /* A window on Tuesday, and one from Sunday on past the end of the week, which is over at minute 240. */
@@ -266,6 +261,25 @@ static void smallest_calls(yohrundel_device d)
     expect(memcmp(first, one, sizeof one) == 0 && memcmp(second, two, sizeof two) == 0, "the scratch banks afterwards");
 }
 
+/* A reset of a kind that there is not is declined, and has compared nothing. */
+static void declined_call(yohrundel_device d)
+{
+    const yohrundel_mask none = {{0, 0, 0, 0}};
+    const yohrundel_reset_answer refused = yohrundel_reset(GEOMETRY, d, one, WORDS, two, WORDS, NULL, 0, 3, none);
+    expect(refused.reason == YOHRUNDEL_REASON_NOT_COMPARED, "the reason of a declined reset");
+    printf("reset %" PRIu32 "\n", refused.decline);
+    printf("decline_text %s\n", yohrundel_decline_text(refused.decline));
+}
+
+/* The bank that runs: after power-on, with BFSWAP alone, and after the start-up, which then sets PFSWAP. */
+static void running_bank_calls(yohrundel_device d)
+{
+    printf("running_bank %" PRIu32 "\n", yohrundel_running_bank(d));
+    d.nvmcon |= YOHRUNDEL_BFSWAP;
+    printf("running_bank %" PRIu32 "\n", yohrundel_running_bank(d));
+    printf("running_bank %" PRIu32 "\n", yohrundel_running_bank(yohrundel_start_up(GEOMETRY, d).device));
+}
+
 static void script_calls(yohrundel_device d)
 {
     const yohrundel_play_length_answer length =
@@ -292,10 +306,12 @@ int main(void)
     step_call(d);
     waiting_call(d);
     plan_call();
-    compare_calls();
+    compare_call();
     lanes_calls();
     reach_calls();
     smallest_calls(d);
+    declined_call(d);
+    running_bank_calls(d);
     sheet_call(d);
     write_script_call(d);
     script_calls(d);

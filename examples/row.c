@@ -36,7 +36,7 @@ static void expect(bool held, const char *what)
 }
 
 /* A reset and a start-up of one sign; gives the bank that runs. */
-static int restart(row *r, yohrundel_sign *s)
+static uint32_t restart(row *r, yohrundel_sign *s)
 {
     const yohrundel_mask none = {{0, 0, 0, 0}};
     const yohrundel_reset_answer reset = yohrundel_reset(
@@ -45,7 +45,7 @@ static int restart(row *r, yohrundel_sign *s)
     const yohrundel_device_answer started = yohrundel_start_up(GEOMETRY, reset.device);
     expect(started.decline == YOHRUNDEL_ACCEPTED, "the answer to a start-up");
     s->device = started.device;
-    return (s->device.nvmcon & YOHRUNDEL_BFSWAP) == 0 ? 1 : 2;
+    return yohrundel_running_bank(s->device);
 }
 
 /* Signs that run bank 1, each with its two banks one after the other in the store; gives the actions of all updates. */
@@ -135,7 +135,7 @@ int main(void)
         run(&r, image, k);
         for (int i = 0; i < SIGNS; i++) {
             expect(memcmp(r.store + r.signs[i].two, updated, sizeof updated) == 0, "the new bank");
-            printf("sign %d: bank %d runs\n", i, restart(&r, &r.signs[i]));
+            printf("sign %d: bank %" PRIu32 " runs\n", i, restart(&r, &r.signs[i]));
         }
     }
     return EXIT_SUCCESS;

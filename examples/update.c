@@ -37,7 +37,7 @@ static void expect(bool held, const char *what)
 static void accepted(uint32_t decline, const char *call)
 {
     if (decline != YOHRUNDEL_ACCEPTED) {
-        fprintf(stderr, "unexpected: %s is declined by %" PRIu32 "\n", call, decline);
+        fprintf(stderr, "unexpected: %s is declined by %" PRIu32 ": %s\n", call, decline, yohrundel_decline_text(decline));
         exit(EXIT_FAILURE);
     }
 }
@@ -46,15 +46,6 @@ static void fill(uint32_t *words, uint32_t first)
 {
     for (uint32_t i = 0; i < WORDS; i++)
         words[i] = first + i;
-}
-
-/* The bank that BFSWAP and PFSWAP both put lower; 0 where they differ. */
-static int running_bank(const yohrundel_device *device)
-{
-    const uint32_t swaps = device->nvmcon & (YOHRUNDEL_BFSWAP | YOHRUNDEL_PFSWAP);
-    if (swaps == 0)
-        return 1;
-    return swaps == (YOHRUNDEL_BFSWAP | YOHRUNDEL_PFSWAP) ? 2 : 0;
 }
 
 static void print_sign(const char *stage, const sign *s)
@@ -77,7 +68,7 @@ static void start_up(sign *s)
     const yohrundel_device_answer a = yohrundel_start_up(GEOMETRY, s->device);
     accepted(a.decline, "start-up");
     s->device = a.device;
-    printf("start-up: bank %d runs\n", running_bank(&s->device));
+    printf("start-up: bank %" PRIu32 " runs\n", yohrundel_running_bank(s->device));
 }
 
 /* Starts the update; gives its total. */
@@ -154,7 +145,7 @@ int main(void)
     s.device = yohrundel_power_on();
     reset(&s, YOHRUNDEL_POWER_ON, none);
     start_up(&s);
-    expect(running_bank(&s.device) == 1, "the bank that runs before the update");
+    expect(yohrundel_running_bank(s.device) == 1, "the bank that runs before the update");
     decline_a_short_image(&s, image);
 
     start_update(&s, image);
@@ -162,14 +153,14 @@ int main(void)
     expect((s.device.nvmcon & YOHRUNDEL_WR) != 0, "no operation runs at the cut");
     reset(&s, YOHRUNDEL_BROWN_OUT, torn);
     start_up(&s);
-    expect(running_bank(&s.device) == 1, "the bank that runs after the cut");
+    expect(yohrundel_running_bank(s.device) == 1, "the bank that runs after the cut");
     expect(memcmp(s.one, old, sizeof old) == 0, "the old bank after the cut");
 
     const uint32_t total = start_update(&s, image);
     const int events = turn_until_done(&s, image, total);
     reset(&s, YOHRUNDEL_POWER_ON, none);
     start_up(&s);
-    expect(running_bank(&s.device) == 2, "the bank that runs after the update");
+    expect(yohrundel_running_bank(s.device) == 2, "the bank that runs after the update");
 
     /* Exactly the image, with the new sequence quad in the place of its last boot quad. */
     memset(image + SEQUENCE, 0xFF, 4 * sizeof image[0]);

@@ -138,6 +138,37 @@ enum yohrundel_decline {
     YOHRUNDEL_DECLINE_LANES = 22
 };
 
+/* The sentence of a number that a call answers. */
+static inline const char *yohrundel_decline_text(uint32_t decline)
+{
+    switch (decline) {
+    case YOHRUNDEL_ACCEPTED: return "not declined";
+    case YOHRUNDEL_DECLINE_GEOMETRY: return "the quads per row, boot pages or program pages are out of range";
+    case YOHRUNDEL_DECLINE_LENGTH: return "a bank, the image, the SRAM or the result has a wrong length";
+    case YOHRUNDEL_DECLINE_DEVICE: return "the device record is impossible";
+    case YOHRUNDEL_DECLINE_REGISTER: return "there is no such register or form";
+    case YOHRUNDEL_DECLINE_RUNNING: return "an operation is running";
+    case YOHRUNDEL_DECLINE_IDLE: return "no operation is running";
+    case YOHRUNDEL_DECLINE_RESET_KIND: return "there is no such kind of reset";
+    case YOHRUNDEL_DECLINE_ADDRESS: return "there is no such address or page";
+    case YOHRUNDEL_DECLINE_BUSY: return "the running operation targets this bank";
+    case YOHRUNDEL_DECLINE_SEQUENCE: return "the sequence words or the mapping do not allow an update";
+    case YOHRUNDEL_DECLINE_LAST_SEQUENCE: return "the last sequence number is in use";
+    case YOHRUNDEL_DECLINE_PROTECTION: return "the protection does not allow an update";
+    case YOHRUNDEL_DECLINE_PLACE: return "the place exceeds the total";
+    case YOHRUNDEL_DECLINE_SCRIPT: return "the script is malformed";
+    case YOHRUNDEL_DECLINE_HOURS: return "a number of the plan is out of range";
+    case YOHRUNDEL_DECLINE_NO_WAIT: return "no wait fits";
+    case YOHRUNDEL_DECLINE_SCRIPT_BUFFER: return "the buffer is shorter than the script";
+    case YOHRUNDEL_DECLINE_SHEET_BUFFER: return "the buffer is shorter than the sheet";
+    case YOHRUNDEL_DECLINE_ROW: return "the row, its queue or the places of its banks are out of range";
+    case YOHRUNDEL_DECLINE_RECORDS: return "the script has more than 64 records";
+    case YOHRUNDEL_DECLINE_NOT_SHOWN: return "the play never gives the number";
+    case YOHRUNDEL_DECLINE_LANES: return "the two lengths differ or are no multiple of 4";
+    default: return "no such decline";
+    }
+}
+
 /* The registers by their numbers. */
 enum yohrundel_register {
     YOHRUNDEL_NVMCON = 0,
@@ -254,6 +285,16 @@ typedef struct yohrundel_device {
      */
     yohrundel_operands launched;
 } yohrundel_device;
+
+/* The number of the bank that the sign runs, which BFSWAP and PFSWAP both put lower: 1 or 2; 0 where they differ. */
+static inline uint32_t yohrundel_running_bank(yohrundel_device d)
+{
+    const bool boot = (d.nvmcon & YOHRUNDEL_BFSWAP) != 0;
+    const bool program = (d.nvmcon & YOHRUNDEL_PFSWAP) != 0;
+    if (boot != program)
+        return 0;
+    return boot ? 2 : 1;
+}
 
 /* The four words of a torn mask. */
 typedef struct yohrundel_mask {

@@ -35,6 +35,15 @@ fn filled(first: u32) -> Vec<u32> {
     (0..WORDS as u32).map(|index| first + index).collect()
 }
 
+/// "The sign runs the bank that BFSWAP and PFSWAP both put lower"; 0 where they differ.
+fn running_bank(device: &Device) -> u32 {
+    match device.registers[NVMCON] & (BFSWAP | PFSWAP) {
+        0 => 1,
+        swaps if swaps == BFSWAP | PFSWAP => 2,
+        _ => 0,
+    }
+}
+
 impl Sign {
     fn banks(&mut self) -> Banks<'_> {
         Banks {
@@ -60,11 +69,7 @@ impl Sign {
         self.device = restart.device;
         self.print("reset");
         self.device = start_up(NUMBERS, self.device).unwrap();
-        let bank = match self.device.registers[NVMCON] & (BFSWAP | PFSWAP) {
-            0 => 1,
-            swaps if swaps == BFSWAP | PFSWAP => 2,
-            _ => 0,
-        };
+        let bank = running_bank(&self.device);
         writeln!(self.text, "start-up: bank {bank} runs").unwrap();
     }
 
@@ -161,6 +166,16 @@ fn smallest(script: &[u8]) -> String {
     format!("smallest 1 1 1 {IDLE} {BANKS} 0 0 0 {BANKS} {script} 6 72 0 0")
 }
 
+/// The bank that runs after power-on, with BFSWAP alone, and after the start-up that follows.
+fn running_banks() -> String {
+    let idle = Device::reset_values();
+    let mut swapped = idle;
+    swapped.registers[NVMCON] |= BFSWAP;
+    let started = start_up(NUMBERS, swapped).unwrap();
+    let banks = [idle, swapped, started].map(|device| running_bank(&device));
+    banks.map(|bank| format!("running_bank {bank}\n")).concat()
+}
+
 fn worked_example() -> Vec<u8> {
     let path = concat!(env!("CARGO_MANIFEST_DIR"), "/../crates/play/stdin");
     std::fs::read(path).unwrap()
@@ -186,12 +201,15 @@ fn calls() {
         String::from("reach 1 1 1 64 0 0 64 0 2 28 1 32 1"),
         String::from("reach 1 1 1 64 0 0 64 0 1 28 1"),
         smallest(&worked_example()),
+        format!("reset 1 1 1 {IDLE} {BANKS} 0 0 0 3 0 0 0 0"),
     ];
     let mut text = String::new();
     for case in &cases {
         let name = case.split(' ').next().unwrap();
         writeln!(text, "{name} {}", answer_line(case)).unwrap();
     }
+    text += "decline_text there is no such kind of reset\n";
+    text += &running_banks();
     let (mut one, mut two) = (vec![!0; WORDS], vec![!0; WORDS]);
     one[SEQUENCE] = 0xFFFE_0001;
     let banks = Banks {

@@ -28,6 +28,13 @@ pub struct FlashRead {
 /// first carries out the operation's remaining steps, each as [`step`] does, up to an abort if one comes, and changes the device and the
 /// banks by them. The word is from the banks as they then are. Any other read changes nothing. Inside an update a turn whose step a read
 /// has done is declined by [`Decline::Idle`].
+///
+/// # Errors
+///
+/// - [`Decline::Geometry`]: Q, B or P is out of range.
+/// - [`Decline::Length`]: a bank has another length than [`Geometry::bank_words`], or the SRAM more than 16,384 words.
+/// - [`Decline::Device`]: the device record is impossible.
+/// - [`Decline::Address`]: the address is outside the four windows or not a multiple of 4.
 pub fn flash_read(
     geometry: Geometry,
     device: Device,
@@ -46,6 +53,12 @@ pub fn flash_read(
 }
 
 /// The bank on the lower boot alias: the lent bank itself.
+///
+/// # Errors
+///
+/// - [`Decline::Geometry`]: Q, B or P is out of range.
+/// - [`Decline::Length`]: a bank has another length than [`Geometry::bank_words`].
+/// - [`Decline::Device`]: the device record is impossible.
 pub fn lower_bank<'a>(
     geometry: Geometry,
     device: Device,
@@ -59,6 +72,12 @@ pub fn lower_bank<'a>(
 }
 
 /// A page of a bank as that part of it, by its number from 0 to N-1, boot pages first.
+///
+/// # Errors
+///
+/// - [`Decline::Geometry`]: Q, B or P is out of range.
+/// - [`Decline::Length`]: the bank has another length than [`Geometry::bank_words`].
+/// - [`Decline::Address`]: a page number of N or more.
 pub fn page(geometry: Geometry, bank: &[u32], page: u32) -> Result<&[u32], Decline> {
     let answer = ffi::page(geometry, bank, page);
     Decline::judge(answer.decline)?;
@@ -66,6 +85,13 @@ pub fn page(geometry: Geometry, bank: &[u32], page: u32) -> Result<&[u32], Decli
 }
 
 /// One step of the running operation, which does one quad, by the address, data and source that it was launched with.
+///
+/// # Errors
+///
+/// - [`Decline::Geometry`]: Q, B or P is out of range.
+/// - [`Decline::Length`]: a bank has another length than [`Geometry::bank_words`], or the SRAM more than 16,384 words.
+/// - [`Decline::Device`]: the device record is impossible.
+/// - [`Decline::Idle`]: no operation runs.
 pub fn step(
     geometry: Geometry,
     device: Device,
@@ -95,6 +121,13 @@ pub struct Restarted {
 /// While an operation runs it tears the quad of the next step: the mask chooses, bit by bit, intended (1), as it was launched, or old (0).
 /// What was loaded since stays in the registers, but for a power-on. Then it sets BFSWAP by comparing the sequence words, and gives the
 /// reason.
+///
+/// # Errors
+///
+/// - [`Decline::Geometry`]: Q, B or P is out of range.
+/// - [`Decline::Length`]: a bank has another length than [`Geometry::bank_words`], or the SRAM more than 16,384 words.
+/// - [`Decline::Device`]: the device record is impossible.
+/// - [`Decline::ResetKind`]: a kind above 2.
 pub fn reset(
     geometry: Geometry,
     device: Device,

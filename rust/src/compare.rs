@@ -6,6 +6,7 @@ use crate::{ffi, Bank};
 
 /// Why a reset puts a bank on the lower alias. A sequence word is valid where its halves add up to 65,535; its low half is its number.
 #[derive(Clone, Copy, Debug, PartialEq, Eq, Hash)]
+#[non_exhaustive]
 pub enum Reason {
     /// Both banks have a valid sequence word, and the one with the higher number goes lower.
     Higher = 0,
@@ -19,7 +20,7 @@ pub enum Reason {
 
 impl Reason {
     /// All of them, in the order of their numbers.
-    pub const ALL: [Reason; 4] = [
+    pub const ALL: &[Reason] = &[
         Reason::Higher,
         Reason::Equal,
         Reason::OnlyOneValid,

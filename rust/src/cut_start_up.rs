@@ -22,7 +22,7 @@ pub fn start_up_stores(device: &Device) -> &'static [(u32, u32, u32)] {
     }
 }
 
-/// A start-up that the supply cuts: its first stores, all where it has fewer. It is declined where [`start_up`] is.
+/// A start-up that the supply cuts: its first stores, all where it has fewer.
 ///
 /// ```
 /// use yohrundel::{cut_start_up, nvmcon, start_up, start_up_stores, Device, Geometry};
@@ -34,6 +34,12 @@ pub fn start_up_stores(device: &Device) -> &'static [(u32, u32, u32)] {
 /// assert_eq!(cut_start_up(sign, device, 3).unwrap().keystep, 3);
 /// assert_eq!(cut_start_up(sign, device, 5), start_up(sign, device));
 /// ```
+///
+/// # Errors
+///
+/// - [`Decline::Geometry`]: Q, B or P is out of range.
+/// - [`Decline::Device`]: the device record is impossible.
+/// - [`Decline::Running`]: an operation runs.
 pub fn cut_start_up(geometry: Geometry, device: Device, stores: usize) -> Result<Device, Decline> {
     start_up(geometry, device)?;
     let mut made = start_up_stores(&device).iter().take(stores);

@@ -3,8 +3,9 @@
 use std::error::Error;
 use std::fmt;
 
-/// Why a call is declined, by the paper's numbers. Where several apply a call gives the lowest.
+/// Why a call is declined, by the paper's numbers. Where several apply a call gives the lowest. A later request may add numbers.
 #[derive(Clone, Copy, Debug, PartialEq, Eq, Hash)]
+#[non_exhaustive]
 #[repr(u32)]
 pub enum Decline {
     /// Q, B or P is outside its list or range.
@@ -56,7 +57,7 @@ pub enum Decline {
 
 impl Decline {
     /// All of them, in the order of their numbers.
-    pub const ALL: [Decline; 22] = [
+    pub const ALL: &[Decline] = &[
         Decline::Geometry,
         Decline::Length,
         Decline::Device,
@@ -86,7 +87,8 @@ impl Decline {
         self as u32
     }
 
-    fn reason(self) -> &'static str {
+    /// Why in words, without the number.
+    pub fn sentence(self) -> &'static str {
         match self {
             Decline::Geometry => "the quads per row, boot pages or program pages are out of range",
             Decline::Length => "a bank, the image, the SRAM or the result has a wrong length",
@@ -123,15 +125,28 @@ impl Decline {
     }
 
     fn numbered(number: u32) -> Decline {
-        let mut all = Decline::ALL.into_iter();
+        let mut all = Decline::ALL.iter().copied();
         let decline = all.find(|decline| decline.number() == number);
         decline.expect("the library answers 0 or one of these numbers")
     }
 }
 
+/// The number and the sentence.
+///
+/// ```
+/// use yohrundel::Decline;
+///
+/// assert_eq!(Decline::Device.to_string(), "declined by 3: the device record is impossible");
+/// assert_eq!(Decline::Device.sentence(), "the device record is impossible");
+/// ```
 impl fmt::Display for Decline {
     fn fmt(&self, formatter: &mut fmt::Formatter<'_>) -> fmt::Result {
-        formatter.write_str(self.reason())
+        write!(
+            formatter,
+            "declined by {}: {}",
+            self.number(),
+            self.sentence()
+        )
     }
 }
 

@@ -23,7 +23,14 @@ pub struct RegisterRead {
 /// Stores a value to a register in one of the forms of [`crate::form`].
 ///
 /// While an operation runs, a store to NVMADDR, NVMDATA0 to 3 or NVMSRCADDR changes that register alone: the operation goes on by what it
-/// was launched with, and the new value serves the next launch. Stores to other registers are declined then.
+/// was launched with, and the new value serves the next launch.
+///
+/// # Errors
+///
+/// - [`Decline::Geometry`]: Q, B or P is out of range.
+/// - [`Decline::Device`]: the device record is impossible.
+/// - [`Decline::Register`]: a register number above 10, a form above 3, or a form other than 0 for NVMKEY.
+/// - [`Decline::Running`]: an operation runs, and the register is none of NVMADDR, NVMDATA0 to 3 and NVMSRCADDR.
 pub fn store(
     geometry: Geometry,
     device: Device,
@@ -43,6 +50,12 @@ pub fn store(
 ///
 /// A probe may read beside an update while the key step is 0 or 1. A read at key step 2 or 3 closes the key, and the store that it was to
 /// open for is lost: docs/POWER-FAIL.md, "A probe beside an update".
+///
+/// # Errors
+///
+/// - [`Decline::Geometry`]: Q, B or P is out of range.
+/// - [`Decline::Device`]: the device record is impossible.
+/// - [`Decline::Register`]: a register number above 10.
 pub fn register_read(
     geometry: Geometry,
     device: Device,
@@ -57,6 +70,12 @@ pub fn register_read(
 }
 
 /// The start-up after a reset: "if BFSWAP = 1, the three key stores and NVMCON set 0x80; always then NVMCON2 set 0xC0".
+///
+/// # Errors
+///
+/// - [`Decline::Geometry`]: Q, B or P is out of range.
+/// - [`Decline::Device`]: the device record is impossible.
+/// - [`Decline::Running`]: an operation runs.
 pub fn start_up(geometry: Geometry, device: Device) -> Result<Device, Decline> {
     let answer = ffi::start_up(geometry, device);
     Decline::judge(answer.decline)?;

@@ -16,33 +16,57 @@ pub struct Geometry {
 
 impl Geometry {
     /// The pages of a bank: N = B+P.
+    ///
+    /// # Errors
+    ///
+    /// [`Decline::Geometry`]: Q, B or P is out of range.
     pub fn pages(self) -> Result<usize, Decline> {
         self.judge()?;
         Ok((self.b + self.p) as usize)
     }
 
     /// The words of a page: 32×Q.
+    ///
+    /// # Errors
+    ///
+    /// [`Decline::Geometry`]: Q, B or P is out of range.
     pub fn page_words(self) -> Result<usize, Decline> {
         self.judge()?;
         Ok(32 * self.q as usize)
     }
 
     /// The words of a bank and of an image: N×32×Q.
+    ///
+    /// # Errors
+    ///
+    /// [`Decline::Geometry`]: Q, B or P is out of range.
     pub fn bank_words(self) -> Result<usize, Decline> {
         Ok(self.pages()? * self.page_words()?)
     }
 
     /// The index in a bank of its sequence word: "word 0 of the last quad of the last boot page".
+    ///
+    /// # Errors
+    ///
+    /// [`Decline::Geometry`]: Q, B or P is out of range.
     pub fn sequence_index(self) -> Result<usize, Decline> {
         Ok(self.b as usize * self.page_words()? - 4)
     }
 
     /// The bytes of a page sheet: 34×N.
+    ///
+    /// # Errors
+    ///
+    /// [`Decline::Geometry`]: Q, B or P is out of range.
     pub fn sheet_bytes(self) -> Result<usize, Decline> {
         Ok(34 * self.pages()?)
     }
 
     /// The bytes of the script that an update is written as, 8 for each of its actions: 8×(12 + 8×N + 112×N×Q).
+    ///
+    /// # Errors
+    ///
+    /// [`Decline::Geometry`]: Q, B or P is out of range.
     pub fn script_bytes(self) -> Result<usize, Decline> {
         let pages = self.pages()?;
         Ok(8 * (12 + 8 * pages + 112 * pages * self.q as usize))

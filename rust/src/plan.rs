@@ -16,6 +16,11 @@ use crate::{ffi, Decline};
 /// assert_eq!(plan(200, 60, &windows), Ok(1_300));
 /// assert_eq!(plan(200, 361, &windows), Err(Decline::NoWait));
 /// ```
+///
+/// # Errors
+///
+/// - [`Decline::Hours`]: the minute, the duration, the number of windows, or the start or length of a window is out of range.
+/// - [`Decline::NoWait`]: no wait fits.
 pub fn plan(minute: u32, duration: u32, windows: &[[u32; 2]]) -> Result<u32, Decline> {
     let answer = ffi::plan_numbers(minute, duration, windows.as_flattened());
     Decline::judge(answer.decline)?;

@@ -47,6 +47,11 @@ pub enum Reach {
 ///     Ok(())
 /// }
 /// ```
+///
+/// # Errors
+///
+/// - [`Decline::Geometry`]: Q, B or P is out of range.
+/// - [`Decline::Length`]: an image has another length than [`Geometry::bank_words`].
 pub fn reach(geometry: Geometry, image: &[u32], other: &[u32]) -> Result<Reach, Decline> {
     let answer = ffi::reach(geometry, image, other);
     Decline::judge(answer.decline)?;

@@ -103,10 +103,6 @@ pub struct Served {
 /// it serves and words of that sign's banks, and nothing else of the list and the store. So what holds of one update that is cut holds for
 /// each sign when all are reset together. Ask [`update_start`](crate::update_start) for each sign before the first call.
 ///
-/// It is declined by [`Decline::Geometry`], by [`Decline::Length`] for the image and the SRAM, and after these by [`Decline::Row`]: a list
-/// of no sign or of more than [`MOST_SIGNS`], K of 0 or above it, a last served or a number in the queue that is no index of the list, a
-/// number twice in the queue, banks that overlap, also those of one sign, or do not lie in the store.
-///
 /// ```
 /// use yohrundel::{schedule, Decline, Device, Geometry, SignRecord, Standing, Supply};
 ///
@@ -131,6 +127,14 @@ pub struct Served {
 ///     Ok(())
 /// }
 /// ```
+///
+/// # Errors
+///
+/// - [`Decline::Geometry`]: Q, B or P is out of range.
+/// - [`Decline::Length`]: the image has another length than [`Geometry::bank_words`], or the SRAM more than 16,384 words.
+/// - [`Decline::Row`]: a list of no sign or of more than [`MOST_SIGNS`]; K of 0 or above it; a last served or a number in the queue that is
+///   no index of the list; a queue of more than [`MOST_SIGNS`] or with a number twice; banks that overlap, also those of one sign, or do
+///   not lie in the store.
 pub fn schedule(
     supply: Supply,
     signs: &mut [SignRecord],

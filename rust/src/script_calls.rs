@@ -14,6 +14,13 @@ pub struct Played {
 /// Plays a script.
 ///
 /// The buffer gets as much of the front of the output as fits; bytes past the output keep their contents.
+///
+/// # Errors
+///
+/// - [`Decline::Geometry`]: Q, B or P is out of range.
+/// - [`Decline::Length`]: a bank has another length than [`Geometry::bank_words`], or the SRAM more than 16,384 words.
+/// - [`Decline::Device`]: the device record is impossible.
+/// - [`Decline::Script`]: a length that isn't a multiple of 8, an unknown record, or an unused byte that is not 0.
 pub fn play(
     geometry: Geometry,
     device: Device,
@@ -32,6 +39,13 @@ pub fn play(
 }
 
 /// The bytes of the whole output of such a play. It plays nothing.
+///
+/// # Errors
+///
+/// - [`Decline::Geometry`]: Q, B or P is out of range.
+/// - [`Decline::Length`]: a bank has another length than [`Geometry::bank_words`], or the SRAM more than 16,384 words.
+/// - [`Decline::Device`]: the device record is impossible.
+/// - [`Decline::Script`]: a length that isn't a multiple of 8, an unknown record, or an unused byte that is not 0.
 pub fn play_length(
     geometry: Geometry,
     device: Device,
@@ -48,7 +62,7 @@ pub fn play_length(
 /// Writes a whole update as a script, from the buffer's first byte on; gives the number of its records, which is the update's total.
 ///
 /// Each action of the update is a record, in order; all of them have [`Geometry::script_bytes`] bytes. Bytes past the last record keep
-/// their contents. It is declined as [`update_start`](crate::update_start), and after that where the buffer is too short.
+/// their contents.
 ///
 /// On the same device and banks the play of the script is the update: each record answers 0, and after `i` records stands what `i` turns
 /// leave. So all that is proved of a supply that fails during an update holds while the script is played.
@@ -73,6 +87,18 @@ pub fn play_length(
 ///     Ok(())
 /// }
 /// ```
+///
+/// # Errors
+///
+/// - [`Decline::Geometry`]: Q, B or P is out of range.
+/// - [`Decline::Length`]: a bank or the image has another length than [`Geometry::bank_words`].
+/// - [`Decline::Device`]: the device record is impossible.
+/// - [`Decline::Running`]: an operation runs.
+/// - [`Decline::Sequence`]: the lower-alias bank's sequence is invalid, a reset would choose the other bank, PFSWAP differs from BFSWAP, or
+///   the other bank's sequence word is invalid with no bit position at 1 in both halves.
+/// - [`Decline::LastSequence`]: T is 65,535.
+/// - [`Decline::Protection`]: UBWPULOCK is 0 or PWP at least P×128×Q.
+/// - [`Decline::ScriptBuffer`]: the buffer is shorter than the script.
 pub fn write_script(
     geometry: Geometry,
     device: Device,

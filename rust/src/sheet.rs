@@ -20,6 +20,13 @@ use crate::{ffi, Decline, Device, Geometry};
 ///     Ok(())
 /// }
 /// ```
+///
+/// # Errors
+///
+/// - [`Decline::Geometry`]: Q, B or P is out of range.
+/// - [`Decline::Length`]: a bank has another length than [`Geometry::bank_words`].
+/// - [`Decline::Device`]: the device record is impossible.
+/// - [`Decline::SheetBuffer`]: the buffer is shorter than the sheet.
 pub fn page_sheet(
     geometry: Geometry,
     device: Device,

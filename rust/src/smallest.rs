@@ -31,10 +31,6 @@ pub struct Bench<'a> {
 /// scratch banks hold what the banks of the bench hold, also where the call is declined by [`Decline::NotShown`]: it is the one call that
 /// changes lent memory when it is declined. By any other decline they keep their contents, and the result keeps its by every decline.
 ///
-/// It is declined as [`play`](crate::play), scratch banks or a result of another length as [`Decline::Length`], after that by
-/// [`Decline::Records`] where the script has more than [`MOST_RECORDS`] records, and at last by [`Decline::NotShown`]. A record is answered
-/// by 0, 4, 5 or 6, and 0 counts as never given: any other number than 4, 5 and 6 is never shown.
-///
 /// ```
 /// use yohrundel::{smallest, Bench, Decline, Device, Geometry};
 ///
@@ -53,6 +49,17 @@ pub struct Bench<'a> {
 ///     Ok(())
 /// }
 /// ```
+///
+/// # Errors
+///
+/// - [`Decline::Geometry`]: Q, B or P is out of range.
+/// - [`Decline::Length`]: a bank or scratch bank has another length than [`Geometry::bank_words`], the result another than the script, or
+///   the SRAM more than 16,384 words.
+/// - [`Decline::Device`]: the device record is impossible.
+/// - [`Decline::Script`]: a length that isn't a multiple of 8, an unknown record, or an unused byte that is not 0.
+/// - [`Decline::Records`]: the script has more than [`MOST_RECORDS`] records.
+/// - [`Decline::NotShown`]: the play never gives the number. A record is answered by 0, 4, 5 or 6, and 0 counts as never given, so that any
+///   number but 4, 5 and 6 is declined.
 pub fn smallest(
     bench: Bench,
     scratch: [&mut [u32]; 2],

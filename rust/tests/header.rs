@@ -81,10 +81,12 @@ const NAMED: [(&str, u32); 34] = [
 
 #[test]
 fn numbers() {
-    let declines = Decline::ALL.map(|decline| (constant("DECLINE", decline), decline.number()));
-    let reasons = Reason::ALL.map(|reason| (constant("REASON", reason), reason.number()));
+    let declines = Decline::ALL.iter();
+    let declines = declines.map(|decline| (constant("DECLINE", decline), decline.number()));
+    let reasons = Reason::ALL.iter();
+    let reasons = reasons.map(|reason| (constant("REASON", reason), reason.number()));
     let named = NAMED.map(|(name, number)| (String::from(name), number));
-    let expected = declines.into_iter().chain(reasons).chain(named);
+    let expected = declines.chain(reasons).chain(named);
     assert_eq!(header(), expected.collect::<BTreeMap<String, u32>>());
 }
 

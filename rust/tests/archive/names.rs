@@ -69,10 +69,11 @@ fn numbers_of_the_declines() {
         Refusal::NotShown,
         Refusal::LaneLengths,
     ];
-    assert_eq!(
-        Decline::ALL.map(Decline::number),
-        outside.map(Refusal::number)
-    );
+    let numbers: Vec<u32> = Decline::ALL
+        .iter()
+        .map(|decline| decline.number())
+        .collect();
+    assert_eq!(numbers, outside.map(Refusal::number));
 }
 
 #[test]

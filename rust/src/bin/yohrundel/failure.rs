@@ -89,5 +89,5 @@ impl From<Decline> for Failure {
 
 /// A decline in words.
 pub fn declined(decline: Decline) -> String {
-    format!("declined by {}: {decline}", decline.number())
+    decline.to_string()
 }
