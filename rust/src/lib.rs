@@ -2,7 +2,8 @@
 //!
 //! A sign has a [`Device`] and two banks of words, whose sizes its [`Geometry`] gives. Each call takes them, does its work, or is
 //! declined by a [`Decline`]; a declined call leaves everything as it was, but for the scratch banks of [`smallest`]. Any numbers,
-//! lengths and contents are taken. [`culprit`] says what a call was declined for.
+//! lengths and contents are taken. [`Sign`] has all of a sign in one place, and the calls as its methods. [`culprit`] says what a
+//! call was declined for.
 //!
 //! ```
 //! use yohrundel::{reset, start_up, update_start, Bank, Decline, Device, Geometry, Reason};
@@ -41,6 +42,7 @@ mod reach;
 mod schedule;
 mod script_calls;
 mod sheet;
+mod sign;
 mod smallest;
 mod update_calls;
 
@@ -58,5 +60,6 @@ pub use reach::{reach, Reach};
 pub use schedule::{schedule, Queue, Served, SignRecord, Standing, Supply, MOST_SIGNS};
 pub use script_calls::{play, play_length, write_script, Played};
 pub use sheet::page_sheet;
+pub use sign::Sign;
 pub use smallest::{smallest, Bench, MOST_RECORDS};
 pub use update_calls::{turn, turn_lent, update_start, Started, TurnOutcome, Turned};

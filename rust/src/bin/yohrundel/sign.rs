@@ -1,30 +1,34 @@
 //! A sign that is updated, or that a script is played on.
 
+use std::ops::Deref;
+
 use yohrundel::reset_kind::POWER_ON;
-use yohrundel::{
-    cut_start_up, flash_read, lower_bank, play, play_length, reset, smallest, start_up,
-    start_up_stores, step, turn_lent, update_start, write_script, Bank, Bench, Decline, Device,
-    Geometry, Reason, TurnOutcome,
-};
+use yohrundel::{start_up_stores, Bank, Decline, Geometry, Reason};
 
 use crate::progress::Progress;
-use crate::records::RECORD;
 
 /// T = 1 and what the update makes of it.
 const OLD_QUAD: [u32; 4] = sequence_quad(1);
 pub const NEW_QUAD: [u32; 4] = sequence_quad(2);
 
 pub struct Sign {
-    pub geometry: Geometry,
-    pub device: Device,
+    now: yohrundel::Sign,
     /// Why the last reset put a bank lower; none before the first.
     pub reason: Option<Reason>,
-    pub banks: [Vec<u32>; 2],
-    /// The banks before the update or the play.
-    old: [Vec<u32>; 2],
+    /// The sign before the update or the play.
+    old: yohrundel::Sign,
     /// The image with the new sequence quad.
     pub new: Vec<u32>,
     image: Vec<u32>,
+}
+
+/// What is asked of the sign as it is now.
+impl Deref for Sign {
+    type Target = yohrundel::Sign;
+
+    fn deref(&self) -> &yohrundel::Sign {
+        &self.now
+    }
 }
 
 impl Sign {
@@ -59,12 +63,11 @@ impl Sign {
 
     /// A sign after power-on, before any reset compares its banks.
     fn powered(geometry: Geometry, banks: [Vec<u32>; 2], image: Vec<u32>) -> Sign {
+        let now = yohrundel::Sign::power_on(geometry, banks);
         Sign {
-            geometry,
-            device: Device::power_on(),
             reason: None,
-            old: banks.clone(),
-            banks,
+            old: now.clone(),
+            now,
             new: image.clone(),
             image,
         }
@@ -72,18 +75,12 @@ impl Sign {
 
     /// T of the bank on the lower alias.
     pub fn sequence_number(&self) -> Result<u16, Decline> {
-        let [one, two] = &self.banks;
-        let lower = lower_bank(self.geometry, self.device, one, two)?;
-        Ok(lower[self.geometry.sequence_index()?] as u16)
-    }
-
-    pub fn bank(&self, bank: Bank) -> &[u32] {
-        &self.banks[index(bank)]
+        Ok(self.lower_bank()?[self.geometry.sequence_index()?] as u16)
     }
 
     /// A bank as it was before the update or the play.
     pub fn old_bank(&self, bank: Bank) -> &[u32] {
-        &self.old[index(bank)]
+        self.old.bank(bank)
     }
 
     /// A reset and a start-up.
@@ -93,39 +90,33 @@ impl Sign {
     }
 
     pub fn reset(&mut self, kind: u32, mask: [u32; 4]) -> Result<(), Decline> {
-        let [one, two] = &mut self.banks;
-        let restarted = reset(self.geometry, self.device, one, two, &[], kind, mask)?;
-        (self.device, self.reason) = (restarted.device, Some(restarted.reason));
+        self.reason = Some(self.now.reset(&[], kind, mask)?);
         Ok(())
     }
 
     pub fn start_up(&mut self) -> Result<(), Decline> {
-        self.device = start_up(self.geometry, self.device)?;
-        Ok(())
+        self.now.start_up()
     }
 
     /// The first stores of a start-up, all where it has fewer; gives how many are done, and how many it has.
     pub fn cut_start_up(&mut self, stores: usize) -> Result<(usize, usize), Decline> {
         let all = start_up_stores(&self.device).len();
-        self.device = cut_start_up(self.geometry, self.device, stores)?;
+        self.now.cut_start_up(stores)?;
         Ok((stores.min(all), all))
     }
 
     /// A flash read without SRAM; gives the word, and for how many steps the read waited, none where it did not.
     pub fn read(&mut self, address: u32) -> Result<(u32, Option<u32>), Decline> {
         let steps = self.steps_left()?;
-        let [one, two] = &mut self.banks;
-        let read = flash_read(self.geometry, self.device, one, two, &[], address)?;
-        self.device = read.device;
+        let read = self.now.flash_read(&[], address)?;
         Ok((read.word, read.event.then_some(steps)))
     }
 
     /// The steps up to the end of the running operation, counted on a copy of the sign.
     fn steps_left(&self) -> Result<u32, Decline> {
-        let (mut device, [mut one, mut two]) = (self.device, self.banks.clone());
-        let mut steps = 0;
-        while device.operation_runs() {
-            device = step(self.geometry, device, &mut one, &mut two, &[])?.device;
+        let (mut copy, mut steps) = (self.now.clone(), 0);
+        while copy.device.operation_runs() {
+            copy.step(&[])?;
             steps += 1;
         }
         Ok(steps)
@@ -133,62 +124,34 @@ impl Sign {
 
     /// The bytes that the play of a script would print.
     pub fn play_length(&self, script: &[u8]) -> Result<usize, Decline> {
-        let [one, two] = &self.banks;
-        play_length(self.geometry, self.device, one, two, &[], script)
+        self.now.play_length(&[], script)
     }
 
     /// Plays a script without SRAM; gives what is printed.
     pub fn play(&mut self, script: &[u8]) -> Result<Vec<u8>, Decline> {
-        let mut output = vec![0; self.play_length(script)?];
-        let (geometry, device) = (self.geometry, self.device);
-        let [one, two] = &mut self.banks;
-        let played = play(geometry, device, one, two, &[], script, &mut output)?;
-        self.device = played.device;
-        Ok(output)
+        self.now.play(&[], script)
     }
 
     /// The smallest script that shows a number, of a script that is played without SRAM. It changes nothing of the sign.
     pub fn smallest(&self, script: &[u8], number: u32) -> Result<Vec<u8>, Decline> {
-        let [one, two] = &self.banks;
-        let bench = Bench {
-            geometry: self.geometry,
-            device: self.device,
-            one,
-            two,
-            sram: &[],
-        };
-        let ([mut first, mut second], mut result) = (self.banks.clone(), vec![0; script.len()]);
-        let scratch = [&mut first[..], &mut second];
-        let records = smallest(bench, scratch, script, number, &mut result)?;
-        result.truncate(RECORD * records as usize);
-        Ok(result)
+        self.now.smallest(&[], script, number)
     }
 
     /// The total of the update's actions, where it is accepted.
     pub fn start(&self) -> Result<u32, Decline> {
-        let [one, two] = &self.banks;
-        Ok(update_start(self.geometry, self.device, one, two, &self.image)?.total)
+        Ok(self.now.update_start(&self.image)?.total)
     }
 
     /// The update as a service script. It carries nothing out.
     pub fn script(&self) -> Result<Vec<u8>, Decline> {
-        let (geometry, [one, two]) = (self.geometry, &self.banks);
-        let mut script = vec![0; geometry.script_bytes()?];
-        write_script(geometry, self.device, one, two, &self.image, &mut script)?;
-        Ok(script)
-    }
-
-    fn turn(&mut self, place: u32) -> Result<TurnOutcome, Decline> {
-        let (geometry, device, image) = (self.geometry, &mut self.device, &self.image);
-        let [one, two] = &mut self.banks;
-        turn_lent(geometry, device, one, two, image, &[], place)
+        self.now.write_script(&self.image)
     }
 
     /// Turns from place 0 up to a place, which is at most the total.
     pub fn turn_until(&mut self, last: u32, progress: &mut Progress) -> Result<(), Decline> {
         let mut place = 0;
         while place < last {
-            place = self.turn(place)?.place;
+            place = self.now.turn(&self.image, &[], place)?.place;
             progress.show(place, last);
         }
         Ok(())
@@ -198,7 +161,7 @@ impl Sign {
     pub fn turn_until_done(&mut self, total: u32, progress: &mut Progress) -> Result<u32, Decline> {
         let (mut place, mut turns) = (0, 0);
         loop {
-            let outcome = self.turn(place)?;
+            let outcome = self.now.turn(&self.image, &[], place)?;
             if outcome.done {
                 return Ok(turns);
             }
@@ -206,10 +169,6 @@ impl Sign {
             progress.show(place, total);
         }
     }
-}
-
-fn index(bank: Bank) -> usize {
-    bank.number() as usize - 1
 }
 
 /// Made-up words of a bank, none of them blank: the number in the high byte, the word's index below it.
