@@ -26,7 +26,7 @@ use Rattle.reads.specs.Read.{readableOf, flashReadDeclineOf, readAnswerOf, Read
 use Rattle.resets.specs.Reset.{resetDeclineOf, resetAnswerOf, Explained, explainedOf, resetOf}
 use Rattle.bank_parts.specs.Parts.{lowerBankDeclineOf, pageDeclineOf}
 use Rattle.script_format.specs.Records.{isScriptOf}
-use Rattle.script_play.specs.Play.{playDeclineOf, declineOf, Playback, playOf}
+use Rattle.script_play.specs.Play.{playDeclineOf, declineOf, Playback, playOf, playLengthOf}
 use Rattle.update.specs.declared.actions.Action.{Action}
 use Rattle.update.specs.declared.actions.Action.the-variants.{Store, Step}
 use Rattle.update.specs.Actions.{totalOf}
@@ -147,6 +147,10 @@ play g sram s script buffer =
     (first (commonDeclineOf g (s .device) (length (s .one) ∷ length (s .two) ∷ []) (length sram)) _ (common g (s .device) _ (length sram))
     (pick-both Not9 (isScriptOf script) (λ e. omega arith) (λ e. omega arith)))
 
+play-length : (g : Geometry) (sram : List ℕ) (s : State) (script : List ℕ) → Not9 (playLengthOf g sram s script .decline)
+unfolding playLengthOf
+play-length g sram s script = play g sram s script []
+
 page-sheet : (g : Geometry) (d : Device) (one two buffer : List ℕ) → Not9 (pageSheetOf g d one two buffer .decline)
 unfolding pageSheetOf pageSheetDeclineOf
 page-sheet g d one two buffer =
@@ -218,6 +222,7 @@ no-nine =
       update-start = update-start;
       turn = turn;
       play = play;
+      play-length = play-length;
       page-sheet = page-sheet;
       plan = plan;
       lanes = lanes;

@@ -13,7 +13,7 @@ use Rattle.flash.specs.Step.{stepOf}
 use Rattle.reads.specs.Read.{flashReadOf}
 use Rattle.resets.specs.Reset.{resetOf}
 use Rattle.bank_parts.specs.Parts.{lowerBankDeclineOf, pageDeclineOf}
-use Rattle.script_play.specs.Play.{playOf}
+use Rattle.script_play.specs.Play.{playOf, playLengthOf}
 use Rattle.update.specs.Start.{startOf}
 use Rattle.update.specs.Turn.{turnOf}
 use Rattle.planner.specs.Planner.{planOf}
@@ -43,6 +43,7 @@ pub record NoNine : Type 0 where
   pub update-start : (g : Geometry) (s : State) (image : List ℕ) → Not9 (startOf g s image .decline)
   pub turn : (g : Geometry) (s : State) (image sram : List ℕ) (place : ℕ) → Not9 (turnOf g s image sram place .decline)
   pub play : (g : Geometry) (sram : List ℕ) (s : State) (script buffer : List ℕ) → Not9 (playOf g sram s script buffer .decline)
+  pub play-length : (g : Geometry) (sram : List ℕ) (s : State) (script : List ℕ) → Not9 (playLengthOf g sram s script .decline)
   pub page-sheet : (g : Geometry) (d : Device) (one two buffer : List ℕ) → Not9 (pageSheetOf g d one two buffer .decline)
   pub plan : (minute duration : ℕ) (windows : List ℕ) → Not9 (planOf minute duration windows .decline)
   pub lanes : (source target : ℕ) → Not9 (lanesDeclineOf source target)

@@ -1,4 +1,4 @@
-//! What the archives' calls cost beside the outside model's, and beside plain loops.
+//! What the archive's calls cost beside the outside model's, and beside plain loops.
 //!
 //! All is measured in one run, in rounds of slices at which the sides take turns, so that what else the machine does slows every side. A
 //! ratio is that of a round: the middle one of the rounds is printed, with the least and the greatest. Each measure first compares what
