@@ -9,7 +9,7 @@ use Rattle.device.specs.declared.record.Device.{Device}
 use Rattle.device.specs.Record.{bfswap, pfswap}
 use Rattle.protection.specs.Protection.{protectedOf}
 
--- "Each of two banks has B boot pages, then P program pages": the kind of page n of a bank, 0 to N-1, and its number of that kind
+-- "Each of two banks has B boot pages .., then P program pages": the kind of page n of a bank, 0 to N-1, and its number of that kind
 abbrev pub isProgramPage : Geometry → ℕ → Bool
 isProgramPage g n = leb (g .b) n
 

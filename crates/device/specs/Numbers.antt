@@ -1,7 +1,7 @@
 -- "Registers" and "Launch and flash steps": registers, forms, keys and operations by their numbers. Assumes nothing.
 use Prim.Native.Nat.{ℕ}
 
--- "0 NVMCON, 1 NVMKEY, 2 NVMADDR, 3 to 6 NVMDATA0 to 3, 7 NVMSRCADDR, 8 NVMPWP, 9 NVMBWP, 10 NVMCON2"
+-- the registers by number: 0 NVMCON, 1 NVMKEY, 2 NVMADDR, 3 to 6 NVMDATA0 to 3, 7 NVMSRCADDR, 8 NVMPWP, 9 NVMBWP, 10 NVMCON2
 abbrev pub NVMCON : ℕ
 NVMCON = 0
 

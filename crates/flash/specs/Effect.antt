@@ -47,11 +47,11 @@ stepLocationOf g d = stepAtOf g (opOf d) (d .launched .nvmaddr) (d .step)
 unfoldable pub blockedOf : Geometry → Device → Location → Bool
 blockedOf g d l = pick (l .program) false (bootProtectedOf d (l .upper) (pageOf g l))
 
--- "Row data is four words of lent SRAM (physical 0 upward) at NVMSRCADDR + 16×step, a sum that doesn't wrap"
+-- "Row data is four words of lent SRAM (physical 0 upward ..) at NVMSRCADDR + 16×step, a sum that doesn't wrap"
 abbrev pub sourceWordOf : Device → ℕ
 sourceWordOf d = (d .launched .nvmsrcaddr + 16 * d .step) / 4
 
--- "an address not a multiple of 4 or a word past the SRAM aborts": neither
+-- "an address not a multiple of 4 .. or a word past the SRAM aborts": neither
 unfoldable pub sourceFitsOf : Device → ℕ → Bool
 sourceFitsOf d sram = eqb (d .launched .nvmsrcaddr % 4) 0 && leb (sourceWordOf d + 4) sram
 

@@ -54,7 +54,7 @@ pagesOf g = g .b + g .p
 abbrev pub rowBytesOf : Geometry → ℕ
 rowBytesOf g = 16 * g .q
 
--- "A page is 8 rows, so 32×Q words or 128×Q bytes."
+-- "A page is 8 rows .., so 32×Q words or 128×Q bytes."
 abbrev pub pageBytesOf : Geometry → ℕ
 pageBytesOf g = 128 * g .q
 
@@ -64,7 +64,7 @@ pageWordsOf g = 32 * g .q
 abbrev pub pageQuadsOf : Geometry → ℕ
 pageQuadsOf g = 8 * g .q
 
--- "Each of two banks has B boot pages, then P program pages"
+-- "Each of two banks has B boot pages .., then P program pages"
 abbrev pub bootBytesOf : Geometry → ℕ
 bootBytesOf g = g .b * pageBytesOf g
 

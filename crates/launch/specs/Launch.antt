@@ -16,8 +16,8 @@ use Rattle.device.specs.Numbers.{noOperation, quadProgram, bothErase}
 abbrev pub launched : ℕ → Bool → Operands → Launched
 launched nvmcon event operands = record { nvmcon = nvmcon; event = event; operands = operands }
 
--- "NVMOP 0: WRERR and LVDERR become 0, no event. WRERR or LVDERR set: no launch, no event. NVMOP 1 and 8 to 15: no launch, no
--- event."; then "failure, meaning WRERR = 1, WR = 0, event", or "Otherwise WR = 1, WRERR = 1, and steps begin."
+-- "NVMOP 0: WRERR and LVDERR become 0, no event."; "WRERR or LVDERR set: no launch, no event."; "NVMOP 1 .. and 8 to 15 ..: no
+-- launch, no event."; then "failure, meaning WRERR = 1, WR = 0, event", or "Otherwise WR = 1, WRERR = 1, and steps begin."
 -- W-209: where they begin, the record holds "all six registers as they stood"
 unfoldable pub launchOf : Geometry → Device → Launched
 launchOf g d =

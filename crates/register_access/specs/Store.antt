@@ -46,7 +46,7 @@ dataAfter quad r w =
     (pick (eqb r NVMDATA3) (set quad 3 w) quad)))
 
 -- the device after a store to another register than NVMCON: "each field takes it if its condition holds on the state before
--- the store, and else stays"; a key store moves the key step, "Any other accepted store sets it to 0 afterwards"
+-- the store, and else stays"; a key store moves the key step, "Any other accepted store .. sets it to 0 afterwards"
 unfoldable pub appliedOf : Device → ℕ → ℕ → Device
 appliedOf d r w =
     withStored d

@@ -28,7 +28,7 @@ keyNextOf keystep value =
 unfoldable pub keyAfterReadOf : ℕ → ℕ
 keyAfterReadOf keystep = pick (ltb keystep 2) keystep 0
 
--- "WREN: always. NVMOP: WREN = 0. PFSWAP, BFSWAP: WREN = 0, SWAPLOCK = 0, key open. WRERR and LVDERR: never."
+-- "WREN: always, by a launching store too. NVMOP: WREN = 0. PFSWAP, BFSWAP: WREN = 0, SWAPLOCK = 0, key open. WRERR and LVDERR: never."
 unfoldable pub conTakesOf : Device → ℕ
 conTakesOf d =
     WREN

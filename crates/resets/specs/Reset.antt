@@ -60,14 +60,14 @@ comparisonOf g one two = compareOf (wordAt one (sequenceIndexOf g)) (wordAt two 
 abbrev pub comparedOf : Geometry → List ℕ → List ℕ → Bool
 comparedOf g one two = comparisonOf g one two .second
 
--- NVMCON but for BFSWAP: "Kinds 1 and 2 clear WR, WREN, PFSWAP"; "Kind 1 with WR = 1 also sets LVDERR."
+-- NVMCON but for BFSWAP: "Kinds 1 and 2 clear WR .., WREN, PFSWAP"; "Kind 1 with WR = 1 also sets LVDERR."
 unfoldable pub resetConOf : Device → ℕ → ℕ
 resetConOf d kind =
     pick (eqb kind powerOnReset) (getD resets NVMCON 0)
     (pick (eqb kind brownOutReset && running d) (bitOr (clearOf (d .nvmcon .0) (WR + WREN + PFSWAP + BFSWAP)) LVDERR)
     (clearOf (d .nvmcon .0) (WR + WREN + PFSWAP + BFSWAP)))
 
--- "power-on gives all reset values. Kinds 1 and 2 clear the key step and the step number, set NVMPWP, NVMBWP, NVMCON2 to
+-- "power-on gives all reset values. Kinds 1 and 2 clear .. the key step and the step number, set NVMPWP, NVMBWP, NVMCON2 to
 -- reset values, and keep the rest and NVMERS." BFSWAP is set as compared; W-209: "a non-power-on reset keeps the new register values", and
 -- nothing is launched any more
 unfoldable pub resetDeviceOf : Device → ℕ → Bool → Device

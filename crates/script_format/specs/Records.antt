@@ -20,7 +20,7 @@ unfoldable pub valueOf : List ℕ → ℕ → ℕ
 valueOf script i =
     byteOf script i 4 + 256 * byteOf script i 5 + 65536 * (byteOf script i 6 + 256 * byteOf script i 7)
 
--- "Records of 8 bytes, no header: kind, register or reset kind, form, 0, value little-endian."
+-- "Records of 8 bytes, no header: kind (0 store, 1 step, 2 reset), register or reset kind, form, 0, value little-endian."
 unfoldable pub recordOf : List ℕ → ℕ → Record
 recordOf script i =
     record {
@@ -35,7 +35,7 @@ recordOf script i =
 abbrev pub lowBytes : ℕ → ℕ → ℕ → ℕ → List ℕ
 lowBytes a b c d = a % 256 ∷ b % 256 ∷ c % 256 ∷ d % 256 ∷ []
 
--- the bytes of a record (W-202): "kind, register or reset kind, form, 0, value little-endian"
+-- the bytes of a record (W-202): "kind .., register or reset kind, form, 0, value little-endian"
 unfoldable pub bytesOf : Record → List ℕ
 bytesOf r =
     lowBytes (r .kind) (r .number) (r .form) (r .unused)
