@@ -7,6 +7,7 @@ use model::reach::{reach, Reach};
 
 use crate::help::{help_of, section};
 use crate::json::{read, Json};
+use crate::outside::Sign;
 use crate::plan::{day_and_time, window};
 use crate::rows::Supply;
 use crate::run::{bytes, run};
@@ -142,7 +143,7 @@ fn reaches() {
 
 /// What is printed of a row, to its end or cut after some calls.
 fn served(numbers: [u32; 3], [signs, k]: [u32; 2], cut: Option<u32>) -> Json {
-    let mut supply = Supply::new(numbers, signs, None);
+    let mut supply = Supply::new(Sign::fresh(numbers, None), signs);
     let calls = cut.unwrap_or(signs * supply.total);
     supply.run(k, calls);
     let wait = supply.longest();

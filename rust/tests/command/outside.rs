@@ -4,7 +4,7 @@ use model::device::{protected, Device};
 use model::flash::{flash_read, reset};
 use model::geometry::{Bank, Banks, Geometry, Kind, Side};
 use model::script::{play_records, Record};
-use model::sequence::{new_quad, Reason};
+use model::sequence::{low_half, new_quad, Reason};
 use model::smallest::{smallest, Bench};
 use model::store::{cut_start_up, start_up, start_up_stores};
 use model::update::{turn, update_start};
@@ -19,10 +19,12 @@ pub struct Sign {
     pub geometry: Geometry,
     pub device: Device,
     pub banks: [Vec<u32>; 2],
-    /// Bank 1 before the update or the play, and what bank 2 must come to.
-    pub old: Vec<u32>,
+    /// The banks before the update or the play, and which of them runs.
+    before: [Vec<u32>; 2],
+    pub runs_before: Bank,
+    /// What the other bank must come to.
     pub new: Vec<u32>,
-    image: Vec<u32>,
+    pub image: Vec<u32>,
     /// Why the last reset put its bank lower.
     pub why: &'static str,
 }
@@ -39,33 +41,51 @@ fn with_sequence(geometry: &Geometry, mut bank: Vec<u32>, low: u16) -> Vec<u32> 
 }
 
 impl Sign {
-    /// "bank 1 runs with the sequence number 1, bank 2 is erased"
+    /// "bank 1 runs with the sequence number 2, bank 2 holds an older firmware with the sequence number 1"
     pub fn fresh(numbers: [u32; 3], image: Option<Vec<u32>>) -> Sign {
         let geometry = Geometry::new(numbers).expect("a sign");
-        let old = with_sequence(&geometry, made_up(&geometry, 0x0100_0000), 1);
-        let blank = vec![!0; old.len()];
-        let mut sign = Sign::started(numbers, [old, blank], image);
-        sign.new = with_sequence(&geometry, sign.image.clone(), 2);
-        assert_eq!(sign.device.running_bank(), Some(Bank::One));
+        let old = with_sequence(&geometry, made_up(&geometry, 0x0200_0000), 2);
+        let older = with_sequence(&geometry, made_up(&geometry, 0x0100_0000), 1);
+        let sign = Sign::started(numbers, [old, older], image);
+        assert_eq!(sign.runs_before, Bank::One);
+        assert_eq!(sign.new[geometry.sequence_index()], 0xFFFC_0003);
         sign
     }
 
     /// A sign with given banks after power-on and start-up.
     pub fn started(numbers: [u32; 3], banks: [Vec<u32>; 2], image: Option<Vec<u32>>) -> Sign {
         let geometry = Geometry::new(numbers).expect("a sign");
-        let image = image.unwrap_or_else(|| made_up(&geometry, 0x0200_0000));
+        let image = image.unwrap_or_else(|| made_up(&geometry, 0x0300_0000));
         let mut sign = Sign {
             numbers,
             geometry,
             device: Device::reset_values(),
-            old: banks[0].clone(),
+            before: banks.clone(),
+            runs_before: Bank::One,
             banks,
             new: image.clone(),
             image,
             why: "",
         };
-        sign.restart(0, [0; 4]);
+        sign.runs_before = sign.restart(0, [0; 4]);
+        let first = geometry.sequence_index();
+        let quad = new_quad(low_half(sign.old()[first]));
+        sign.new[first..first + 4].copy_from_slice(&quad);
         sign
+    }
+
+    /// The bank that runs before the update, as it was then.
+    pub fn old(&self) -> &[u32] {
+        &self.before[self.runs_before.number() as usize - 1]
+    }
+
+    /// Both banks after the update: the old one as it was, the other as the image.
+    pub fn updated(&self) -> [Vec<u32>; 2] {
+        let (old, new) = (self.old().to_vec(), self.new.clone());
+        match self.runs_before {
+            Bank::One => [old, new],
+            Bank::Two => [new, old],
+        }
     }
 
     /// "all ones but bank 1's sequence word 0xFFFE0001, no SRAM, after power-on"
@@ -73,13 +93,14 @@ impl Sign {
         let numbers = [1, 1, 1];
         let geometry = Geometry::new(numbers).expect("a sign");
         let blank = vec![!0; geometry.bank_words() as usize];
-        let old = with_sequence(&geometry, blank.clone(), 1);
+        let banks = [with_sequence(&geometry, blank.clone(), 1), blank.clone()];
         Sign {
             numbers,
             geometry,
             device: Device::reset_values(),
-            banks: [old.clone(), blank.clone()],
-            old,
+            before: banks.clone(),
+            runs_before: Bank::One,
+            banks,
             new: blank.clone(),
             image: blank,
             why: "",
@@ -226,16 +247,10 @@ impl Sign {
         };
         let words = self.geometry.page_words();
         let range = (number * words) as usize..((number + 1) * words) as usize;
-        let (old, is) = match bank {
-            Bank::One => (
-                Some(&self.old[range.clone()]),
-                &self.banks[0][range.clone()],
-            ),
-            Bank::Two => (None, &self.banks[1][range.clone()]),
-        };
-        match is {
+        let index = bank.number() as usize - 1;
+        match &self.banks[index][range.clone()] {
             blank if blank.iter().all(|word| *word == 0xFFFF_FFFF) => '.',
-            whole if Some(whole) == old => 'o',
+            whole if whole == &self.before[index][range.clone()] => 'o',
             whole if whole == &self.new[range] => 'n',
             _ => '~',
         }

@@ -53,7 +53,7 @@ fn scripts_written_and_played() {
         let mut sign = Sign::fresh(numbers, None);
         let (lines, said) = played(&mut sign, &update);
         assert!(said.contains("refused: 0.") && said.contains("bank 2 runs"));
-        assert_eq!(sign.banks, [sign.old.clone(), sign.new.clone()]);
+        assert_eq!(sign.banks, sign.updated());
         let size = sizes(numbers);
         let ran = play(&update, &["--sizes", &size, "--restart"]);
         assert_eq!(ran.printed(), format!("{lines}{said}"));
@@ -185,6 +185,6 @@ fn largest_script_played() {
                 its sequence number is the higher one.\n";
     assert!(printed.ends_with(said));
     let sign = Sign::fresh(numbers, None);
-    assert!(fs::read(one).expect("bank 1") == bytes(&sign.old));
+    assert!(fs::read(one).expect("bank 1") == bytes(sign.old()));
     assert!(fs::read(two).expect("bank 2") == bytes(&sign.new));
 }

@@ -2,7 +2,7 @@
 
 use model::device::Device;
 use model::flash::reset;
-use model::geometry::{Bank, Banks, Geometry};
+use model::geometry::{Bank, Banks};
 use model::schedule::{schedule, Common, Row, Sign as Record};
 use model::store::start_up;
 use model::update::total;
@@ -22,18 +22,16 @@ pub struct Supply {
     numbers: [u32; 3],
     pub row: Row,
     store: Vec<u32>,
-    image: Vec<u32>,
     pub total: u32,
     states: Vec<Vec<char>>,
     together: Vec<usize>,
 }
 
 impl Supply {
-    pub fn new(numbers: [u32; 3], signs: u32, image: Option<Vec<u32>>) -> Supply {
-        let geometry = Geometry::new(numbers).expect("a sign");
+    /// So many equal signs.
+    pub fn new(sign: Sign, signs: u32) -> Supply {
+        let geometry = sign.geometry;
         let words = geometry.bank_words();
-        let image = image.unwrap_or_else(|| (0x0200_0000..0x0200_0000 + words).collect());
-        let sign = Sign::fresh(numbers, Some(image.clone()));
         let record = |number| Record {
             device: sign.device,
             place: 0,
@@ -49,9 +47,8 @@ impl Supply {
             total: total(&geometry),
             states: vec![Vec::new(); signs as usize],
             together: Vec::new(),
+            numbers: geometry.numbers(),
             sign,
-            numbers,
-            image,
         }
     }
 
@@ -59,7 +56,7 @@ impl Supply {
     fn call(&mut self, k: u32) -> bool {
         let common = Common {
             numbers: self.numbers,
-            image: &self.image,
+            image: &self.sign.image,
             sram: &[],
         };
         let served = schedule(&common, k, &mut self.row, &mut self.store);
@@ -85,7 +82,7 @@ impl Supply {
     /// The bank that a sign runs after a reset and start-up: the old one, whole, or exactly the new.
     pub fn restart(&self, number: usize) -> Bank {
         let sign = &self.row.signs[number];
-        let words = self.image.len();
+        let words = self.sign.image.len();
         let [mut one, mut two] = sign
             .starts
             .map(|start| self.store[start as usize..][..words].to_vec());
@@ -95,9 +92,11 @@ impl Supply {
         };
         let cut = reset(self.numbers, sign.device, &mut banks, &[], 0, [0; 4]).expect("a reset");
         let device: Device = start_up(self.numbers, cut.device).expect("a start-up");
-        assert_eq!(one, self.sign.old);
+        let old = self.sign.runs_before;
+        let kept = if old == Bank::One { &one } else { &two };
+        assert_eq!(kept, self.sign.old());
         let runs = device.running_bank().expect("a bank that runs");
-        assert!(runs == Bank::One || two == self.sign.new);
+        assert!(runs == old || [one, two] == self.sign.updated());
         runs
     }
 
@@ -195,15 +194,9 @@ fn head(signs: u32, k: u32, total: u32) -> String {
     )
 }
 
-/// What a row prints in lines of so many columns.
-pub fn expected(
-    numbers: [u32; 3],
-    [signs, k]: [u32; 2],
-    cut: Option<u32>,
-    image: Option<Vec<u32>>,
-    width: usize,
-) -> String {
-    let mut supply = Supply::new(numbers, signs, image);
+/// What a row of equal signs prints in lines of so many columns.
+pub fn expected(sign: Sign, [signs, k]: [u32; 2], cut: Option<u32>, width: usize) -> String {
+    let (old, mut supply) = (sign.runs_before, Supply::new(sign, signs));
     let total = supply.total;
     let calls = cut.unwrap_or(signs * total);
     supply.run(k, calls);
@@ -221,11 +214,13 @@ pub fn expected(
     );
     for number in 0..signs as usize {
         let place = supply.row.signs[number].place;
-        let runs = match supply.restart(number) {
-            Bank::One => "bank 1 runs, the old one, with every word",
-            Bank::Two => "bank 2 runs, exactly the new one",
+        let bank = supply.restart(number);
+        let runs = match bank == old {
+            true => "the old one, with every word",
+            false => "exactly the new one",
         };
-        text += &format!("sign {number:<2} at place {place}: {runs}\n");
+        let bank = bank.number();
+        text += &format!("sign {number:<2} at place {place}: bank {bank} runs, {runs}\n");
     }
     text
 }
@@ -238,7 +233,8 @@ fn check(numbers: [u32; 3], row: [u32; 2], cut: Option<u32>) {
     }
     let arguments: Vec<&str> = line.split(' ').collect();
     let printed = run(&arguments).printed();
-    assert_eq!(printed, expected(numbers, row, cut, None, 72), "{line}");
+    let expected = expected(Sign::fresh(numbers, None), row, cut, 72);
+    assert_eq!(printed, expected, "{line}");
     assert!(printed.lines().all(|line| line.len() <= 80), "{line}");
 }
 
@@ -278,5 +274,6 @@ fn image_of_a_file() {
     let path = file("row-image", &bytes(&image));
     let path = path.to_str().expect("a name in UTF-8");
     let printed = run(&["row", "2", "1", "1", "1", "1", path]).printed();
-    assert_eq!(printed, expected([1, 1, 1], [2, 1], None, Some(image), 72));
+    let sign = Sign::fresh([1, 1, 1], Some(image));
+    assert_eq!(printed, expected(sign, [2, 1], None, 72));
 }

@@ -49,7 +49,7 @@ fn scripts_of_fresh_signs() {
         let made_up = Sign::fresh(numbers, None);
         let expected = made_up.script().expect("it is accepted");
         assert!(written(script(&sign, &[])) == expected, "{sign}");
-        let image = random_words(&mut random, made_up.old.len());
+        let image = random_words(&mut random, made_up.image.len());
         let path = named(&format!("script-image-{number}"), &bytes(&image));
         let child = spawn(&format!("script {sign} -").split(' ').collect::<Vec<_>>());
         let piped = finish(child, &bytes(&image));
@@ -107,7 +107,7 @@ fn script_in_a_file() {
     let expected = Sign::fresh([1, 2, 6], None).script();
     let expected = expected.expect("it is accepted");
     let said = "The script has 972 records in 7776 bytes.\n\
-                It serves signs of these sizes that run with the sequence number 1 and accept\n\
+                It serves signs of these sizes that run with the sequence number 2 and accept\n\
                 the update.\n";
     for arguments in [
         ["script", "1", "2", "6", "-o", &path],

@@ -83,7 +83,7 @@ fn width_of_a_row() {
     for (columns, width) in [("40", 40), ("133", 133), ("19", 72), ("x", 72), ("", 72)] {
         let row = format!("COLUMNS={columns} {PROGRAM} row 3 2 1 1 1");
         let printed = on_a_terminal(&row).expect("a terminal").printed();
-        let expected = expected([1, 1, 1], [3, 2], None, None, width);
+        let expected = expected(Sign::fresh([1, 1, 1], None), [3, 2], None, width);
         assert_eq!(printed, expected.replace('\n', "\r\n"), "{columns}");
     }
 }

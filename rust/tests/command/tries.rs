@@ -79,7 +79,7 @@ fn expected(numbers: [u32; 3], cuts: &[Cut]) -> (String, usize) {
     for (made, cut) in (1..).zip(cuts) {
         let (failing, runs) = cut.expected(&mut sign);
         text += &failing;
-        if runs == Bank::Two {
+        if runs != sign.runs_before {
             let rest = match cuts.len() - made {
                 0 => "",
                 _ => "; the other cuts are left out",

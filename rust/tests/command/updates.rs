@@ -34,26 +34,31 @@ fn whole(sign: &mut Sign) -> String {
     )
 }
 
-pub fn ending(sign: &Sign) -> &'static str {
-    assert_eq!(sign.banks, [sign.old.clone(), sign.new.clone()]);
-    "Bank 1 kept every word.\nBank 2 is the image with the new sequence quad\n\
-     FFFD0002 FFFFFFFF FFFFFFFF FFFFFFFF.\n"
+pub fn ending(sign: &Sign) -> String {
+    assert_eq!(sign.banks, sign.updated());
+    let (old, new) = (sign.runs_before, sign.runs_before.other());
+    let word = sign.new[sign.geometry.sequence_index()];
+    format!(
+        "Bank {} kept every word.\nBank {} is the image with the new sequence quad\n\
+         {word:08X} FFFFFFFF FFFFFFFF FFFFFFFF.\n",
+        old.number(),
+        new.number()
+    )
 }
 
-/// What an update prints.
-fn update(numbers: [u32; 3], image: Option<Vec<u32>>) -> String {
-    let mut sign = Sign::fresh(numbers, image);
-    let (why, before) = (sign.why, sign.picture());
-    let whole = whole(&mut sign);
+/// What an update of a sign prints; the sign is left after it.
+pub fn update(sign: &mut Sign) -> String {
+    let (runs, why, before) = (sign.runs_before.number(), sign.why, sign.picture());
+    let whole = whole(sign);
     format!(
-        "Before the update bank 1 runs:\n{why}.\n\n{before}\n\
+        "Before the update bank {runs} runs:\n{why}.\n\n{before}\n\
          The update is accepted. {whole}\n{LEGEND}"
     )
 }
 
 /// The quads that a reset changed: the index of the bank and the quad's number in it.
 fn changed_quads(before: &Sign, after: &Sign) -> Vec<(usize, usize)> {
-    let quads = 0..before.old.len() / 4;
+    let quads = 0..before.image.len() / 4;
     let all = quads.flat_map(|quad| [(0, quad), (1, quad)]);
     all.filter(|place| quad(before, *place) != quad(after, *place))
         .collect()
@@ -88,9 +93,10 @@ fn change(before: &Sign, after: &Sign) -> String {
 pub fn cut(mut sign: Sign, front: &str, kind: u32, mask: [u32; 4]) -> (String, Bank) {
     let total = total(&sign.geometry);
     let (failing, runs) = failing(&mut sign, front, kind, mask, &[]);
-    let end = match runs {
-        Bank::One => again(&mut sign),
-        Bank::Two => format!("The update is complete.\n{}", ending(&sign)),
+    let end = if runs == sign.runs_before {
+        again(&mut sign)
+    } else {
+        format!("The update is complete.\n{}", ending(&sign))
     };
     let text = format!("The update has {total} actions.\n{failing}{end}\n{LEGEND}");
     (text, runs)
@@ -190,18 +196,19 @@ fn updates_with_a_made_up_image() {
     ] {
         let arguments = format!("update {}", geometry_text(numbers));
         let arguments: Vec<&str> = arguments.split(' ').collect();
-        assert_eq!(run(&arguments).printed(), update(numbers, None));
+        let expected = update(&mut Sign::fresh(numbers, None));
+        assert_eq!(run(&arguments).printed(), expected);
     }
 }
 
-/// An image with a blank page, with the old bank's words in another, and with random words.
+/// An image with a blank page, with the running bank's words in another, and with random words.
 #[test]
 fn update_with_an_image() {
     let mut random = Random::new(1);
     let mut image: Vec<u32> = (0..4 * 64).map(|_| random.word()).collect();
     image[64..128].fill(!0);
-    image[128..192].copy_from_slice(&Sign::fresh([2, 1, 3], None).old[128..192]);
-    let expected = update([2, 1, 3], Some(image.clone()));
+    image[128..192].copy_from_slice(&Sign::fresh([2, 1, 3], None).old()[128..192]);
+    let expected = update(&mut Sign::fresh([2, 1, 3], Some(image.clone())));
     assert!(expected.contains("bank 2* n     .nn\n"), "{expected}");
     let path = file("image", &bytes(&image));
     let path = path.to_str().expect("a name in UTF-8");

@@ -1,6 +1,6 @@
 //! `yohrundel cut`: an update whose supply fails, once or again and again.
 
-use yohrundel::{Bank, Decline};
+use yohrundel::Decline;
 
 use crate::arguments::Arguments;
 use crate::command::{Command, First};
@@ -136,7 +136,8 @@ fn cut_start_up(sign: &mut Sign, stores: u32) -> Result<String, Decline> {
 }
 
 fn runs_new(sign: &Sign) -> bool {
-    sign.device.running_bank() == Some(Bank::Two)
+    let [_, new] = sign.old_and_new();
+    sign.device.running_bank() == Some(new)
 }
 
 /// The same update once more, where the old bank runs.
@@ -147,7 +148,7 @@ fn again(sign: &mut Sign, left_out: bool, progress: &mut Progress) -> Result<Str
         } else {
             ""
         };
-        let ending = ending(sign);
+        let ending = ending(sign)?;
         return Ok(format!("The update is complete{rest}.\n{ending}"));
     }
     match sign.start() {
@@ -156,7 +157,7 @@ fn again(sign: &mut Sign, left_out: bool, progress: &mut Progress) -> Result<Str
             Ok(format!("The same update is accepted again. {update}"))
         }
         Err(decline) => {
-            let (reason, ending) = (declined(decline), ending(sign));
+            let (reason, ending) = (declined(decline), ending(sign)?);
             Ok(format!("The same update is {reason}.\n{ending}"))
         }
     }

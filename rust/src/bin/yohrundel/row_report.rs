@@ -100,7 +100,7 @@ impl Report {
              After {calls} {end}. After a power-on reset and start-up of all:\n"
         );
         for (number, sign) in self.signs.iter().enumerate() {
-            let (place, runs) = (sign.place, sign.runs.sentence());
+            let (place, runs) = (sign.place, sign.sentence());
             text += &format!("sign {number:<2} at place {place}: {runs}\n");
         }
         text
@@ -147,11 +147,11 @@ impl Report {
 
 impl SignEnd {
     fn of(row: &Row, sign: &SignRecord) -> SignEnd {
-        let (kept, exact) = row.kept_and_exact(sign);
+        let ([old, new], (kept, exact)) = (row.old_and_new(), row.kept_and_exact(sign));
         let bank = sign.device.running_bank();
         let runs = match bank {
-            Some(Bank::One) if kept => Runs::Old,
-            Some(Bank::Two) if kept && exact => Runs::New,
+            Some(bank) if bank == old && kept => Runs::Old,
+            Some(bank) if bank == new && kept && exact => Runs::New,
             Some(_) => Runs::Neither,
             None => Runs::Nothing,
         };
@@ -159,6 +159,13 @@ impl SignEnd {
             place: sign.place,
             bank,
             runs,
+        }
+    }
+
+    fn sentence(&self) -> String {
+        match self.bank {
+            Some(bank) => format!("bank {} runs, {}", bank.number(), self.runs.words()),
+            None => String::from("no bank runs"),
         }
     }
 
@@ -192,12 +199,13 @@ impl Ending {
 }
 
 impl Runs {
-    fn sentence(self) -> &'static str {
+    /// The bank that runs, in words.
+    fn words(self) -> &'static str {
         match self {
-            Runs::Old => "bank 1 runs, the old one, with every word",
-            Runs::New => "bank 2 runs, exactly the new one",
-            Runs::Neither => "a bank runs that is neither the old one nor the new",
-            Runs::Nothing => "no bank runs",
+            Runs::Old => "the old one, with every word",
+            Runs::New => "exactly the new one",
+            Runs::Neither => "neither the old one nor the new",
+            Runs::Nothing => "none",
         }
     }
 

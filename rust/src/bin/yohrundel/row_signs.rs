@@ -1,4 +1,4 @@
-//! A row of made-up signs on one supply.
+//! A row of equal signs on one supply.
 
 use yohrundel::reset_kind::POWER_ON;
 use yohrundel::{reset, schedule, start_up, Bank, Decline, Served, SignRecord, Standing, Supply};
@@ -72,11 +72,23 @@ impl Row {
         Ok(())
     }
 
-    /// Whether bank 1 of a sign kept every word, and bank 2 is the image with the new sequence quad.
+    /// The bank of each sign that runs before its update, and the one that it writes.
+    pub fn old_and_new(&self) -> [Bank; 2] {
+        self.sign.old_and_new()
+    }
+
+    /// Whether the old bank of a sign kept every word, and the new one is the image with the new sequence quad.
     pub fn kept_and_exact(&self, sign: &SignRecord) -> (bool, bool) {
-        let words = self.image.len();
-        let bank = |start: u32| &self.store[start as usize..][..words];
-        let kept = bank(sign.one) == self.sign.old_bank(Bank::One);
-        (kept, bank(sign.two) == self.sign.new)
+        let [old, new] = self.old_and_new();
+        let kept = self.bank(sign, old) == self.sign.old_bank(old);
+        (kept, self.bank(sign, new) == self.sign.new)
+    }
+
+    fn bank(&self, sign: &SignRecord, bank: Bank) -> &[u32] {
+        let start = match bank {
+            Bank::One => sign.one,
+            Bank::Two => sign.two,
+        };
+        &self.store[start as usize..][..self.image.len()]
     }
 }

@@ -7,9 +7,10 @@ use yohrundel::{start_up_stores, Bank, Decline, Geometry, Reason};
 
 use crate::progress::Progress;
 
-/// T = 1 and what the update makes of it.
-const OLD_QUAD: [u32; 4] = sequence_quad(1);
-pub const NEW_QUAD: [u32; 4] = sequence_quad(2);
+/// The made-up firmwares: the one that bank 2 still holds, the one that bank 1 runs, and the image. The first two have these T.
+const OLDER: u16 = 1;
+const OLD: u16 = 2;
+const IMAGE: u16 = 3;
 
 pub struct Sign {
     now: yohrundel::Sign,
@@ -17,9 +18,12 @@ pub struct Sign {
     pub reason: Option<Reason>,
     /// The sign before the update or the play.
     old: yohrundel::Sign,
+    /// The bank that runs before the update.
+    runs_before: Bank,
     /// The image with the new sequence quad.
     pub new: Vec<u32>,
-    image: Vec<u32>,
+    /// The image of the update.
+    pub image: Vec<u32>,
 }
 
 /// What is asked of the sign as it is now.
@@ -32,11 +36,10 @@ impl Deref for Sign {
 }
 
 impl Sign {
-    /// A sign after power-on and start-up: bank 1 runs with T = 1, bank 2 is erased. The image is one bank long.
+    /// A sign after power-on and start-up: bank 1 runs with T = 2, bank 2 holds an older firmware with T = 1. The image is one bank long.
     pub fn fresh(geometry: Geometry, image: Vec<u32>) -> Result<Sign, Decline> {
-        let one = with_quad(geometry, &made_up(geometry, 1)?, OLD_QUAD)?;
-        let blank = vec![!0; geometry.bank_words()?];
-        Sign::started(geometry, [one, blank], image)
+        let bank = |number| with_quad(geometry, &made_up(geometry, number)?, sequence_quad(number));
+        Sign::started(geometry, [bank(OLD)?, bank(OLDER)?], image)
     }
 
     /// A sign with given banks after power-on and start-up. They and the image are one bank long.
@@ -47,6 +50,7 @@ impl Sign {
     ) -> Result<Sign, Decline> {
         let mut sign = Sign::powered(geometry, banks, image);
         sign.restart(POWER_ON, [0; 4])?;
+        sign.runs_before = sign.device.running_bank().unwrap_or(Bank::One);
         let next = sign.sequence_number()?.wrapping_add(1);
         sign.new = with_quad(geometry, &sign.image, sequence_quad(next))?;
         Ok(sign)
@@ -57,7 +61,8 @@ impl Sign {
     pub fn bench() -> Result<Sign, Decline> {
         let geometry = Geometry { q: 1, b: 1, p: 1 };
         let blank = vec![!0; geometry.bank_words()?];
-        let banks = [with_quad(geometry, &blank, OLD_QUAD)?, blank.clone()];
+        let one = with_quad(geometry, &blank, sequence_quad(1))?;
+        let banks = [one, blank.clone()];
         Ok(Sign::powered(geometry, banks, blank))
     }
 
@@ -66,6 +71,7 @@ impl Sign {
         let now = yohrundel::Sign::power_on(geometry, banks);
         Sign {
             reason: None,
+            runs_before: Bank::One,
             old: now.clone(),
             now,
             new: image.clone(),
@@ -76,6 +82,20 @@ impl Sign {
     /// T of the bank on the lower alias.
     pub fn sequence_number(&self) -> Result<u16, Decline> {
         Ok(self.lower_bank()?[self.geometry.sequence_index()?] as u16)
+    }
+
+    /// The bank that runs before the update, and the one that it writes.
+    pub fn old_and_new(&self) -> [Bank; 2] {
+        match self.runs_before {
+            Bank::One => [Bank::One, Bank::Two],
+            Bank::Two => [Bank::Two, Bank::One],
+        }
+    }
+
+    /// The sequence quad that the update writes.
+    pub fn new_quad(&self) -> Result<&[u32], Decline> {
+        let first = self.geometry.sequence_index()?;
+        Ok(&self.new[first..first + 4])
     }
 
     /// A bank as it was before the update or the play.
@@ -172,14 +192,14 @@ impl Sign {
 }
 
 /// Made-up words of a bank, none of them blank: the number in the high byte, the word's index below it.
-fn made_up(geometry: Geometry, number: u32) -> Result<Vec<u32>, Decline> {
-    let words = geometry.bank_words()? as u32;
-    Ok((0..words).map(|index| (number << 24) + index).collect())
+fn made_up(geometry: Geometry, number: u16) -> Result<Vec<u32>, Decline> {
+    let (words, front) = (geometry.bank_words()? as u32, u32::from(number) << 24);
+    Ok((0..words).map(|index| front + index).collect())
 }
 
 /// An image where no file gives one.
 pub fn made_up_image(geometry: Geometry) -> Result<Vec<u32>, Decline> {
-    made_up(geometry, 2)
+    made_up(geometry, IMAGE)
 }
 
 /// The quad of a sequence number: T, its complement above it, and three words of all ones.

@@ -19,7 +19,7 @@ pub const COMMAND: Command = Command {
     details: "\
 The sign has Q quads per row (1, 2, 4, 8, 16, 32, 64 or 128), B boot pages (1 to
 5) and P program pages (1 to 128) a bank. Its bank 1 runs with the sequence
-number 1, bank 2 is erased.
+number 2, bank 2 holds an older firmware with the sequence number 1.
 IMAGE is a file of words, lowest byte first, exactly one bank long: (B + P) x
 128 x Q bytes; - is standard input. Without it the image is made up.
 It prints the update's total and turns, which bank runs before and after it and

@@ -3,11 +3,11 @@
 use std::fmt::Display;
 
 use yohrundel::reset_kind::POWER_ON;
-use yohrundel::{Bank, Decline};
+use yohrundel::Decline;
 
 use crate::picture::picture;
 use crate::progress::Progress;
-use crate::sign::{Sign, NEW_QUAD};
+use crate::sign::Sign;
 
 /// The bank that runs, and on a line of its own why the last reset chose it, as the rest of a sentence.
 pub fn runs(sign: &Sign) -> String {
@@ -43,7 +43,7 @@ pub fn whole_update(
 ) -> Result<String, Decline> {
     let turns = sign.turn_until_done(total, progress)?;
     sign.restart(POWER_ON, [0; 4])?;
-    let (runs, picture, ending) = (runs(sign), picture(sign)?, ending(sign));
+    let (runs, picture, ending) = (runs(sign), picture(sign)?, ending(sign)?);
     Ok(format!(
         "It has {} and is done after {}.\n\
          After a power-on reset and start-up {runs}.\n\n{picture}\n{ending}",
@@ -53,14 +53,15 @@ pub fn whole_update(
 }
 
 /// What became of both banks.
-pub fn ending(sign: &Sign) -> String {
-    let kept = sign.bank(Bank::One) == sign.old_bank(Bank::One);
+pub fn ending(sign: &Sign) -> Result<String, Decline> {
+    let [old, new] = sign.old_and_new();
+    let kept = sign.bank(old) == sign.old_bank(old);
     let kept = if kept { "kept" } else { "did not keep" };
-    let exact = sign.bank(Bank::Two) == sign.new;
+    let exact = sign.bank(new) == sign.new;
     let exact = if exact { "is" } else { "is not" };
-    let quad = quad(&NEW_QUAD);
-    format!(
-        "Bank 1 {kept} every word.\n\
-         Bank 2 {exact} the image with the new sequence quad\n{quad}.\n"
-    )
+    let (old, new, quad) = (old.number(), new.number(), quad(sign.new_quad()?));
+    Ok(format!(
+        "Bank {old} {kept} every word.\n\
+         Bank {new} {exact} the image with the new sequence quad\n{quad}.\n"
+    ))
 }
