@@ -2,10 +2,11 @@
 
 use crate::run::run;
 
-pub const COMMANDS: [&str; 12] = [
+pub const COMMANDS: [&str; 13] = [
     "play",
     "script",
     "smallest",
+    "start",
     "update",
     "cut",
     "row",

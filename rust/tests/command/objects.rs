@@ -20,12 +20,12 @@ fn printed(line: &str) -> Json {
     read(&text).unwrap_or_else(|| panic!("{line}: {text}"))
 }
 
-fn object<const N: usize>(pairs: [(&str, Json); N]) -> Json {
+pub fn object<const N: usize>(pairs: [(&str, Json); N]) -> Json {
     Json::Object(pairs.map(|(key, value)| (key.into(), value)).into())
 }
 
 /// The keys that the help of a command names, sorted.
-fn documented(command: &str) -> Vec<String> {
+pub fn documented(command: &str) -> Vec<String> {
     let help = help_of(command);
     let mut keys: Vec<String> = section(&help, "Keys of --json:")
         .into_iter()
@@ -35,7 +35,7 @@ fn documented(command: &str) -> Vec<String> {
     keys
 }
 
-fn sorted(mut keys: Vec<String>) -> Vec<String> {
+pub fn sorted(mut keys: Vec<String>) -> Vec<String> {
     keys.sort();
     keys
 }

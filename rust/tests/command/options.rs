@@ -222,7 +222,7 @@ fn options_given_twice() {
         for option in options(command) {
             let mut words = option.split(' ');
             let name = words.next().expect("its name");
-            if ["--then", "--cut-start-up", "--help,"].contains(&name) {
+            if ["--then", "--cut-start-up", "--register", "--help,"].contains(&name) {
                 continue;
             }
             let given = match words.next() {

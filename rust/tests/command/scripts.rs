@@ -141,9 +141,8 @@ fn no_file_of_a_declined_start() {
     let path = named("script-declined", b"kept");
     let options = ["--bank1", &blank, "--bank2", &blank, "-o", &path];
     let reason = "10: the sequence words or the mapping do not allow an update";
-    assert_eq!(
-        script("1 1 1", &options).reason(1),
-        format!("script: declined by {reason}")
-    );
+    let printed = script("1 1 1", &options).reason(1);
+    let front = format!("script: declined by {reason}");
+    assert!(printed.starts_with(&front), "{printed}");
     assert_eq!(fs::read(&path).expect("a file"), b"kept");
 }

@@ -54,6 +54,25 @@ fn no_bytes_for_a_terminal() {
     assert_eq!(printed, "store NVMADDR plain 0x1D000080\r\n");
 }
 
+/// Nor are a bank's bytes.
+#[test]
+fn no_bank_for_a_terminal() {
+    if !there_is_a_terminal() {
+        return;
+    }
+    for (command, option) in [
+        ("play /dev/null", "--save1"),
+        ("update 1 1 1", "--save1"),
+        ("cut 1 1 1 0 0", "--save2"),
+    ] {
+        let ran = on_a_terminal(&format!("{PROGRAM} {command} {option} -")).expect("a terminal");
+        let name = command.split(' ').next().unwrap_or("");
+        let reason = "a bank is no text for a terminal: give the name of a file, or a pipe";
+        let line = format!("yohrundel: {name}: {reason}; try yohrundel {name} --help\r\n");
+        assert_eq!((ran.status, ran.out), (Some(2), line.into_bytes()));
+    }
+}
+
 /// Both banks after the play follow its lines.
 #[test]
 fn banks_after_a_play() {

@@ -9,7 +9,7 @@ use model::script::{records, Record};
 use crate::run::{finish, run, spawn, Ran};
 use crate::scripts::{named, written};
 
-const REGISTERS: [&str; 11] = [
+pub const REGISTERS: [&str; 11] = [
     "NVMCON",
     "NVMKEY",
     "NVMADDR",

@@ -68,8 +68,11 @@ impl Command {
         given.join(" ")
     }
 
-    /// The failure with the command's name in front.
+    /// The failure with the command's name in front, where anything is said of it.
     fn named(&self, failure: Failure) -> Failure {
+        if failure.reason.is_empty() {
+            return failure;
+        }
         let mut reason = format!("{}: {}", self.name, failure.reason);
         if failure.status == ARGUMENTS {
             reason += &format!("; try yohrundel {} --help", self.name);

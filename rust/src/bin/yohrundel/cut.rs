@@ -6,10 +6,16 @@ use crate::arguments::Arguments;
 use crate::command::{Command, First};
 use crate::cut_arguments::{take_cuts, Cut, CUT_START_UP, READ, THEN};
 use crate::failure::{declined, Answer, Failure};
+use crate::given_sign::GivenSign;
+use crate::options::OptionSpec;
 use crate::picture::{legend, picture};
 use crate::progress::Progress;
-use crate::sign::{made_up_image, Sign};
+use crate::registers::REGISTER;
+use crate::saves::{Saves, SAVE1, SAVE2};
+use crate::sign::Sign;
+use crate::sign_files::{BANK1, BANK2, IMAGE};
 use crate::torn::change;
+use crate::update_start::accepted;
 use crate::wording::{counted, ending, runs, whole_update};
 
 pub const COMMAND: Command = Command {
@@ -18,8 +24,7 @@ pub const COMMAND: Command = Command {
     first: First::Any,
     summary: "runs an update whose supply fails",
     details: "\
-Q, B and P are the sign's sizes, and it begins, as for yohrundel update; the
-image is made up.
+Q, B, P and the sign are as for yohrundel update; the image is that of --image.
 PLACE is how many actions are done when the supply fails, 0 to the total.
 KIND is the kind of the reset: 0 or power-on, 1 or brown-out, 2 or other.
 MASK chooses, where an operation runs, which bits of its next quad get through
@@ -32,21 +37,41 @@ that are left, and the update's turns for them would be declined by 6.
 It prints what the read gave, and for how many steps it waited; a picture of
 both banks at the cut, which bank runs after the reset and start-up and why,
 whether the same update is accepted again, and how that ends.",
-    options: &[READ, CUT_START_UP, THEN],
+    options: &[
+        IMAGE,
+        BANK1,
+        BANK2,
+        REGISTER,
+        READ,
+        CUT_START_UP,
+        THEN,
+        SAVE_CUT1,
+        SAVE2,
+    ],
     keys: &[],
     run,
 };
 
+const SAVE_CUT1: OptionSpec = SAVE1.explained(
+    "writes bank 1 to FILE as the last cut leaves it, in the format that the name says; - is \
+     standard output, which then gets the bank's words alone",
+);
+
 fn run(arguments: Arguments) -> Answer {
     let mut progress = Progress::new();
+    let (given, saves) = (GivenSign::of(&arguments)?, Saves::of(&arguments)?);
+    let image = arguments.value(&IMAGE);
     let (geometry, cuts) = take_cuts(arguments)?;
-    let mut sign = Sign::fresh(geometry, made_up_image(geometry)?)?;
-    let total = sign.start()?;
+    let mut sign = given.sign(geometry, image)?;
+    let total = accepted(&sign)?;
     if let Some(Cut { place, .. }) = cuts.iter().find(|cut| cut.place > total) {
         let cause = format!("PLACE is {place}, the total {total}");
         return Err(Failure::declined(Decline::Place, cause));
     }
     let (tries, left_out) = tries(&mut sign, &cuts, &mut progress)?;
+    if let Some(bank) = saves.write(&sign)? {
+        return Ok(bank);
+    }
     let (again, legend) = (again(&mut sign, left_out, &mut progress)?, legend());
     let actions = counted(total, "action");
     Ok(format!("The update has {actions}.\n{tries}{again}\n{legend}").into())

@@ -12,7 +12,8 @@ pub const READ: OptionSpec = OptionSpec::value(
     "--read",
     "ADDRESS",
     "before the supply fails the CPU reads the word at that hexadecimal address",
-);
+)
+.in_part();
 
 /// A start-up of a cut that is cut itself.
 pub const CUT_START_UP: OptionSpec = OptionSpec::value(
@@ -21,14 +22,15 @@ pub const CUT_START_UP: OptionSpec = OptionSpec::value(
     "after the reset the supply fails again, when N stores of the start-up are done, or all where \
      it has fewer; a reset of the same kind follows. It may be given several times.",
 )
-.several();
+.several()
+.in_part();
 
 /// The next cut.
 pub const THEN: OptionSpec = OptionSpec::part(
     "--then",
     "PLACE KIND [MASK] [OPTION..]",
-    "the update is begun again, and the supply fails again, with options of this cut alone. It may \
-     be given several times. Cuts are left out once the new bank runs.",
+    "the update is begun again, and the supply fails again, with --read and --cut-start-up of this \
+     cut alone. It may be given several times. Cuts are left out once the new bank runs.",
 );
 
 /// One cut of an update.

@@ -40,6 +40,14 @@ pub struct Failure {
     /// One line; empty where nothing is said.
     pub reason: String,
     pub status: u8,
+    /// Why the work is declined, where it is.
+    pub declined: Option<Declined>,
+}
+
+/// A decline, and its cause where that is known.
+pub struct Declined {
+    pub decline: Decline,
+    pub cause: Option<String>,
 }
 
 /// What a command prints.
@@ -47,11 +55,11 @@ pub type Answer = Result<Vec<u8>, Failure>;
 
 impl Failure {
     fn new(status: u8, reason: String) -> Failure {
-        let output = Vec::new();
         Failure {
-            output,
+            output: Vec::new(),
             reason,
             status,
+            declined: None,
         }
     }
 
@@ -67,6 +75,11 @@ impl Failure {
         Failure::new(FILES, format!("{path:?} cannot be written: {error}"))
     }
 
+    /// A line of the text of a file, counted from 1, is not understood.
+    pub fn line(path: &OsStr, number: usize, reason: impl Display) -> Failure {
+        Failure::arguments(format!("line {number} of {path:?}: {reason}"))
+    }
+
     /// The output cannot be written. That its reader is gone is no news to whoever ended it.
     pub fn output(error: io::Error) -> Failure {
         match error.kind() {
@@ -77,13 +90,24 @@ impl Failure {
 
     /// A decline with what the caller knows of its cause.
     pub fn declined(decline: Decline, cause: impl Display) -> Failure {
-        Failure::new(DECLINED, format!("{}: {cause}", declined(decline)))
+        Failure::of_decline(decline, Some(cause.to_string()))
+    }
+
+    fn of_decline(decline: Decline, cause: Option<String>) -> Failure {
+        let reason = match &cause {
+            Some(cause) => format!("{}: {cause}", declined(decline)),
+            None => declined(decline),
+        };
+        Failure {
+            declined: Some(Declined { decline, cause }),
+            ..Failure::new(DECLINED, reason)
+        }
     }
 }
 
 impl From<Decline> for Failure {
     fn from(decline: Decline) -> Failure {
-        Failure::new(DECLINED, declined(decline))
+        Failure::of_decline(decline, None)
     }
 }
 

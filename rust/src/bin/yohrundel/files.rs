@@ -3,10 +3,12 @@
 use std::ffi::OsStr;
 use std::fs::{self, File};
 use std::io::{self, Read};
+use std::os::unix::ffi::OsStrExt;
 
 use yohrundel::{Decline, Geometry};
 
 use crate::failure::Failure;
+use crate::hex_bank;
 
 /// The bytes of a file, of standard input where its name is `-`; at most so many from its front.
 pub fn bytes(path: &OsStr, most: usize) -> Result<Vec<u8>, Failure> {
@@ -23,9 +25,22 @@ fn read(path: &OsStr, most: u64) -> io::Result<Vec<u8>> {
     Ok(bytes)
 }
 
-/// A bank or an image: a file of words, lowest byte first, exactly one bank long.
+/// What the name of a file of Intel HEX ends in, in small or capital letters.
+const HEX_ENDS: [&[u8]; 3] = [b".hex", b".ihex", b".ihx"];
+
+/// Whether a file is Intel HEX, by its name.
+fn is_hex(path: &OsStr) -> bool {
+    let name = path.as_bytes().to_ascii_lowercase();
+    HEX_ENDS.iter().any(|end| name.ends_with(end))
+}
+
+/// A bank or an image: a file of words, lowest byte first, exactly one bank long, or one of Intel HEX.
 pub fn bank(geometry: Geometry, path: &OsStr) -> Result<Vec<u32>, Failure> {
     let length = 4 * geometry.bank_words()?;
+    if is_hex(path) {
+        let text = bytes(path, usize::MAX)?;
+        return Ok(words(&hex_bank::read(geometry, path, &text)?));
+    }
     let bytes = bytes(path, length + 1)?;
     if bytes.len() != length {
         let cause = format!("{path:?} does not have the {length} bytes of a bank");
@@ -37,6 +52,15 @@ pub fn bank(geometry: Geometry, path: &OsStr) -> Result<Vec<u32>, Failure> {
 /// The words of a bank as a file has them.
 pub fn bank_bytes(words: &[u32]) -> Vec<u8> {
     words.iter().flat_map(|word| word.to_le_bytes()).collect()
+}
+
+/// Writes a bank to a file, in the format that its name says.
+pub fn write_bank(geometry: Geometry, path: &OsStr, words: &[u32]) -> Result<(), Failure> {
+    let mut bytes = bank_bytes(words);
+    if is_hex(path) {
+        bytes = hex_bank::write(geometry, &bytes)?.into();
+    }
+    write(path, &bytes)
 }
 
 /// Writes a file, which is made where there is none.

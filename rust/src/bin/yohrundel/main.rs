@@ -7,8 +7,11 @@ mod cut;
 mod cut_arguments;
 mod failure;
 mod files;
+mod given_sign;
 mod help;
 mod help_text;
+mod hex_bank;
+mod hex_records;
 mod json;
 mod lanes;
 mod nearest;
@@ -22,19 +25,23 @@ mod play;
 mod progress;
 mod reach;
 mod records;
+mod registers;
 mod resets;
 mod row;
 mod row_report;
 mod row_signs;
+mod saves;
 mod script;
 mod sheet;
 mod sign;
 mod sign_files;
 mod smallest;
+mod start;
 mod timeline;
 mod times;
 mod torn;
 mod update;
+mod update_start;
 mod windows;
 mod wording;
 
@@ -55,6 +62,7 @@ const COMMANDS: &[Command] = &[
     play::COMMAND,
     script::COMMAND,
     smallest::COMMAND,
+    start::COMMAND,
     update::COMMAND,
     cut::COMMAND,
     row::COMMAND,

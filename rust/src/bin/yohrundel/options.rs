@@ -10,6 +10,8 @@ pub struct OptionSpec {
     pub takes: Takes,
     /// Whether it may be given several times.
     pub repeats: bool,
+    /// Whether it is of the part of the arguments that it stands in, and not of the whole command.
+    pub of_part: bool,
     /// What it does, without line breaks.
     pub help: &'static str,
 }
@@ -20,7 +22,7 @@ pub enum Takes {
     Nothing,
     /// A value, by its name in the help. One that is named [`FILE`] is the name of a file.
     Value(&'static str),
-    /// Another part of the arguments, by their names in the help, with options of its own.
+    /// Another part of the arguments, by their names in the help, with its own of the options that are of a part.
     Part(&'static str),
 }
 
@@ -38,6 +40,7 @@ impl OptionSpec {
             alias: None,
             takes: Takes::Nothing,
             repeats: false,
+            of_part: false,
             help,
         }
     }
@@ -71,6 +74,14 @@ impl OptionSpec {
     pub const fn several(self) -> OptionSpec {
         OptionSpec {
             repeats: true,
+            ..self
+        }
+    }
+
+    /// The option as one of the part that it stands in alone.
+    pub const fn in_part(self) -> OptionSpec {
+        OptionSpec {
+            of_part: true,
             ..self
         }
     }

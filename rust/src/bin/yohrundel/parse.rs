@@ -79,12 +79,17 @@ impl<'a> Parser<'a, '_> {
         self.rest.next().map(OsString::as_os_str)
     }
 
+    /// Puts an option into the part that is being taken, or into the first where it is of the whole command.
     fn give(&mut self, option: OptionSpec, value: &'a OsStr) -> Result<(), Failure> {
-        if !option.repeats && self.part.is_given(&option) {
+        let part = match self.parts.first_mut() {
+            Some(first) if !option.of_part => first,
+            _ => &mut self.part,
+        };
+        if !option.repeats && part.is_given(&option) {
             let reason = format!("{} is given twice", option.name);
             return Err(Failure::arguments(reason));
         }
-        self.part.options.push((option.name, value));
+        part.options.push((option.name, value));
         Ok(())
     }
 }

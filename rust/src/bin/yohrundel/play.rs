@@ -11,11 +11,12 @@ use crate::arguments::Arguments;
 use crate::command::{Command, First};
 use crate::failure::{Answer, Failure};
 use crate::files;
-use crate::options::{OptionSpec, FILE};
+use crate::options::OptionSpec;
 use crate::picture::{legend, picture};
 use crate::records::RECORD;
+use crate::saves::{Saves, SAVE1, SAVE2};
 use crate::sign::Sign;
-use crate::sign_files::{sizes, BankFiles, BANK1, BANK2, SIZES};
+use crate::sign_files::{sizes, BankFiles, BANK1, BANK2, IMAGE, SIZES};
 use crate::wording::runs;
 
 pub const COMMAND: Command = Command {
@@ -34,26 +35,18 @@ What is no script gets the line 14, a reason on standard error, and status 1.
 With --sizes a script may be of any length.
 A script of yohrundel script ends on its sign in the new bank. A play checks
 nothing that an update start checks: on any other sign nothing is promised.",
-    options: &[SIZES, BANK1, BANK2, IMAGE, RESTART, SAVE1, SAVE2],
+    options: &[SIZES, BANK1, BANK2, SHOWN, RESTART, SAVE1, SAVE2],
     keys: &[],
     run,
 };
 
-const IMAGE: OptionSpec = OptionSpec::value(
-    "--image",
-    FILE,
-    "an image whose pages the picture shows as new",
-);
+const SHOWN: OptionSpec = IMAGE.explained("an image whose pages the picture shows as new");
 
 const RESTART: OptionSpec = OptionSpec::flag(
     "--restart",
     "resets by power-on and starts up at the end, and says how many records were refused, which \
      bank runs, and why",
 );
-
-const SAVE1: OptionSpec = OptionSpec::value("--save1", FILE, "writes bank 1 to FILE at the end");
-
-const SAVE2: OptionSpec = OptionSpec::value("--save2", FILE, "writes bank 2 to FILE at the end");
 
 /// The longest script of the play program in bytes.
 const LONGEST: usize = 65_536;
@@ -64,7 +57,7 @@ struct Options<'a> {
     banks: BankFiles<'a>,
     image: Option<&'a OsStr>,
     restart: bool,
-    save: [Option<&'a OsStr>; 2],
+    saves: Saves<'a>,
 }
 
 impl<'a> Options<'a> {
@@ -72,9 +65,9 @@ impl<'a> Options<'a> {
         let options = Options {
             sizes: sizes(arguments)?,
             banks: BankFiles::of(arguments)?,
-            image: arguments.value(&IMAGE),
+            image: arguments.value(&SHOWN),
             restart: arguments.is_given(&RESTART),
-            save: [arguments.value(&SAVE1), arguments.value(&SAVE2)],
+            saves: Saves::of(arguments)?,
         };
         let of_a_sign = options.banks.are_given() || options.image.is_some();
         if of_a_sign && options.sizes.is_none() {
@@ -108,7 +101,9 @@ fn run(mut arguments: Arguments) -> Answer {
     if options.restart {
         output.extend(restarted(&mut sign, &output)?.bytes());
     }
-    save(&sign, options.save)?;
+    if let Some(bank) = options.saves.write(&sign)? {
+        return Ok(bank);
+    }
     if io::stdout().is_terminal() {
         let (picture, legend) = (picture(&sign)?, legend());
         output.extend(format!("\n{picture}\n{legend}").bytes());
@@ -137,16 +132,6 @@ fn count(lines: &str) -> String {
         "Records played: {}, refused: {refused}{first}.",
         answers.count()
     )
-}
-
-/// Writes the banks to the files that are given.
-fn save(sign: &Sign, paths: [Option<&OsStr>; 2]) -> Result<(), Failure> {
-    for (words, path) in sign.banks.iter().zip(paths) {
-        if let Some(path) = path {
-            files::write(path, &files::bank_bytes(words))?;
-        }
-    }
-    Ok(())
 }
 
 /// The first record that is no script by itself.

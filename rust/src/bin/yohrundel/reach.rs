@@ -16,9 +16,8 @@ pub const COMMAND: Command = Command {
     first: First::Any,
     summary: "says what a changed image can touch",
     details: "\
-Q, B and P are the sign's sizes, as for yohrundel update. IMAGE1 and IMAGE2 are
-files of words, lowest byte first, each exactly one bank long; - is standard
-input.
+Q, B and P are the sign's sizes, and IMAGE1 and IMAGE2 files of images, as for
+yohrundel update; - is standard input.
 Where the images differ in one word it prints the word's number in its page, the
 page, what the word is in each image, and the place of the one action of the
 update that differs, which stores the word. Two updates with these images, begun

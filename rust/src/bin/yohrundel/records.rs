@@ -42,6 +42,16 @@ pub fn line(record: &[u8]) -> Option<String> {
     }
 }
 
+/// The name of a register.
+pub fn register_name(number: u32) -> Option<&'static str> {
+    name(&REGISTERS, number.try_into().ok()?)
+}
+
+/// The number of a register.
+pub fn register_number(name: &str) -> Option<u32> {
+    number(&REGISTERS, name)
+}
+
 fn name(all: &[Named], number: u8) -> Option<&'static str> {
     let named = all.iter().find(|(_, of)| *of == u32::from(number));
     named.map(|(name, _)| *name)

@@ -5,14 +5,16 @@ use yohrundel::{Decline, MOST_SIGNS};
 use crate::arguments::{decimal, Arguments, DECIMAL_WORDS};
 use crate::command::{Command, First};
 use crate::failure::{Answer, Failure};
+use crate::given_sign::GivenSign;
 use crate::json::JSON;
 use crate::options::OptionSpec;
 use crate::progress::Progress;
+use crate::registers::REGISTER;
 use crate::row_report::{Ending, Report, KEYS};
 use crate::row_signs::Row;
-use crate::sign::Sign;
-use crate::sign_files::image;
+use crate::sign_files::{BANK1, BANK2};
 use crate::timeline::Timeline;
+use crate::update_start::accepted;
 
 pub const COMMAND: Command = Command {
     name: "row",
@@ -21,14 +23,15 @@ pub const COMMAND: Command = Command {
     summary: "updates a row of signs on one supply",
     details: "\
 SIGNS signs, 1 to 32, hang on a supply that bears K flash operations together, 1
-to 32. Each is as for yohrundel update, with Q, B, P and IMAGE as there. Each
-call does one turn for one sign. One that would launch an operation too many
-waits, and the longest waiting goes first.
+to 32. Each is as for yohrundel update, with Q, B, P and IMAGE as there, and all
+have the same banks and registers. Each call does one turn for one sign. One
+that would launch an operation too many waits, and the longest waiting goes
+first.
 It prints a line a sign of who waited and whose operation ran over time, how
 many operations ran together, how many calls it took, the longest wait, and
 which bank each sign runs after a reset and start-up.
 On a terminal the lines are as wide as COLUMNS says, else 72 columns.",
-    options: &[CUT, JSON],
+    options: &[BANK1, BANK2, REGISTER, CUT, JSON],
     keys: KEYS,
     run,
 };
@@ -42,15 +45,16 @@ const CUT: OptionSpec = OptionSpec::value(
 
 fn run(mut arguments: Arguments) -> Answer {
     let mut progress = Progress::new();
+    let given = GivenSign::of(&arguments)?;
     let cut = arguments.value_form(&CUT, DECIMAL_WORDS, decimal)?;
     let (signs, k) = (arguments.number("SIGNS")?, arguments.number("K")?);
     let geometry = arguments.geometry()?;
     let path = arguments.optional();
     arguments.end()?;
-    let image = image(geometry, path)?;
+    let sign = given.sign(geometry, path)?;
     check_range(signs, k)?;
-    let sign = Sign::fresh(geometry, image.clone())?;
-    let mut row = Row::fresh(sign, image, signs, k)?;
+    let total = accepted(&sign)?;
+    let mut row = Row::of(sign, total, signs, k);
     let calls = last_call(&row, cut)?;
     let timeline = serve(&mut row, calls, &mut progress)?;
     let ending = ending(&mut row, cut)?;

@@ -8,7 +8,6 @@ use crate::sign::Sign;
 pub struct Row {
     /// The sign as each was before its update.
     sign: Sign,
-    image: Vec<u32>,
     pub k: u32,
     pub signs: Vec<SignRecord>,
     pub standing: Standing,
@@ -18,24 +17,23 @@ pub struct Row {
 }
 
 impl Row {
-    /// So many fresh signs, with the banks of each one after the other in the store; their updates are accepted.
-    pub fn fresh(sign: Sign, image: Vec<u32>, signs: u32, k: u32) -> Result<Row, Decline> {
-        let (words, total) = (image.len() as u32, sign.start()?);
+    /// So many signs as the given one, whose update is accepted with a total, with the banks of each one after the other in the store.
+    pub fn of(sign: Sign, total: u32, signs: u32, k: u32) -> Row {
+        let words = sign.image.len() as u32;
         let record = |number: u32| SignRecord {
             device: sign.device,
             place: 0,
             one: 2 * number * words,
             two: (2 * number + 1) * words,
         };
-        Ok(Row {
+        Row {
             signs: (0..signs).map(record).collect(),
             standing: Standing::fresh(signs as usize),
             store: sign.banks.concat().repeat(signs as usize),
             total,
             sign,
-            image,
             k,
-        })
+        }
     }
 
     /// The calls that do all actions of all updates.
@@ -48,7 +46,7 @@ impl Row {
         let supply = Supply {
             geometry: self.sign.geometry,
             k: self.k,
-            image: &self.image,
+            image: &self.sign.image,
             sram: &[],
         };
         let (signs, standing) = (&mut self.signs, &mut self.standing);
@@ -62,7 +60,7 @@ impl Row {
 
     /// A power-on reset and a start-up of all signs.
     pub fn restart(&mut self) -> Result<(), Decline> {
-        let (geometry, words) = (self.sign.geometry, self.image.len());
+        let (geometry, words) = (self.sign.geometry, self.sign.image.len());
         for sign in &mut self.signs {
             let own = &mut self.store[sign.one as usize..][..2 * words];
             let (one, two) = own.split_at_mut(words);
@@ -89,6 +87,6 @@ impl Row {
             Bank::One => sign.one,
             Bank::Two => sign.two,
         };
-        &self.store[start as usize..][..self.image.len()]
+        &self.store[start as usize..][..self.sign.image.len()]
     }
 }

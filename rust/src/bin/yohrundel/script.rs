@@ -8,12 +8,15 @@ use crate::arguments::Arguments;
 use crate::command::{Command, First};
 use crate::failure::{Answer, Failure};
 use crate::files;
+use crate::given_sign::GivenSign;
 use crate::options::{OptionSpec, FILE};
 use crate::output::{Output, OUT};
 use crate::play::malformed;
 use crate::records::{line, record, RECORD};
+use crate::registers::REGISTER;
 use crate::sign::Sign;
-use crate::sign_files::{BankFiles, BANK1, BANK2};
+use crate::sign_files::{BANK1, BANK2};
+use crate::update_start::accepted;
 use crate::wording::counted;
 
 pub const COMMAND: Command = Command {
@@ -22,14 +25,14 @@ pub const COMMAND: Command = Command {
     first: First::Any,
     summary: "writes an update as a service script",
     details: "\
-Q, B, P and IMAGE are as for yohrundel update. It writes the update as a service
-script, a record for each action, to standard output, but never to a terminal.
-On the same sign the play of the script is the update, record by record: what
-holds where the supply fails during an update, holds during the play. What is
-written depends on the sizes, the image and the sequence number of the bank that
-runs alone, and serves every sign of these sizes with this sequence number that
-accepts the update. A play checks nothing of this: on any other sign nothing is
-promised of it.
+Q, B, P, IMAGE and the sign are as for yohrundel update. It writes the update as
+a service script, a record for each action, to standard output, but never to a
+terminal. On the same sign the play of the script is the update, record by
+record: what holds where the supply fails during an update, holds during the
+play. What is written depends on the sizes, the image and the sequence number of
+the bank that runs alone, and serves every sign of these sizes with this
+sequence number that accepts the update. A play checks nothing of this: on any
+other sign nothing is promised of it.
 
 yohrundel script --list FILE prints a script as text, a record a line:
   store REGISTER FORM VALUE  such as store NVMCON set 0x00004000
@@ -39,7 +42,7 @@ REGISTER is NVMCON, NVMKEY, NVMADDR, NVMDATA0 to 3, NVMSRCADDR, NVMPWP, NVMBWP
 or NVMCON2, FORM is plain, clear, set or invert, VALUE a hexadecimal word.
 yohrundel script --make FILE makes the script of such a text. What follows a #
 in it is a comment, and a line may be blank. FILE may be - for standard input.",
-    options: &[BANK1, BANK2, WORK, LIST, MAKE],
+    options: &[BANK1, BANK2, REGISTER, WORK, LIST, MAKE],
     keys: &[],
     run,
 };
@@ -61,8 +64,8 @@ const MAKE: OptionSpec = OptionSpec::value(
 
 fn run(mut arguments: Arguments) -> Answer {
     let output = Output::of(&arguments);
-    arguments.exclude(&LIST, &[MAKE, BANK1, BANK2])?;
-    arguments.exclude(&MAKE, &[BANK1, BANK2])?;
+    arguments.exclude(&LIST, &[MAKE, BANK1, BANK2, REGISTER])?;
+    arguments.exclude(&MAKE, &[BANK1, BANK2, REGISTER])?;
     let (listed, made) = (arguments.value(&LIST), arguments.value(&MAKE));
     if let Some(path) = listed {
         arguments.end()?;
@@ -77,12 +80,13 @@ fn run(mut arguments: Arguments) -> Answer {
 
 /// Writes an update.
 fn write(mut arguments: Arguments, output: &Output) -> Answer {
-    let banks = BankFiles::of(&arguments)?;
+    let given = GivenSign::of(&arguments)?;
     let geometry = arguments.geometry()?;
     let image = arguments.optional();
     arguments.end()?;
     output.refuse_terminal()?;
-    let sign = banks.sign(geometry, image)?;
+    let sign = given.sign(geometry, image)?;
+    accepted(&sign)?;
     let (script, number) = (sign.script()?, sign.sequence_number()?);
     let said = format!(
         "{}It serves signs of these sizes that run with the sequence number {number} and accept\n\
@@ -117,7 +121,7 @@ fn make(path: &OsStr, output: &Output) -> Answer {
     let text = files::bytes(path, usize::MAX)?;
     let mut records = Vec::new();
     for (number, line) in (1..).zip(text.split(|byte| *byte == b'\n')) {
-        let wrong = |reason| Failure::arguments(format!("line {number} of {path:?}: {reason}"));
+        let wrong = |reason| Failure::line(path, number, reason);
         records.extend(record(&String::from_utf8_lossy(line)).map_err(wrong)?);
     }
     let script = records.concat();

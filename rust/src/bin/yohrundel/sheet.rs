@@ -1,13 +1,14 @@
 //! `yohrundel sheet`: the state of a sign, a line a page.
 
 use yohrundel::reset_kind::POWER_ON;
-use yohrundel::{page_sheet, reset, start_up, Decline, Device, Geometry};
+use yohrundel::{page_sheet, register, reset, start_up, Decline, Device, Geometry};
 
 use crate::arguments::{hexadecimal, Arguments};
 use crate::command::{Command, First};
 use crate::failure::{Answer, Failure};
 use crate::files;
 use crate::options::OptionSpec;
+use crate::registers::{Registers, REGISTER};
 
 pub const COMMAND: Command = Command {
     name: "sheet",
@@ -15,14 +16,13 @@ pub const COMMAND: Command = Command {
     first: First::Any,
     summary: "prints the state of a sign",
     details: "\
-Q, B and P are the sign's sizes, as for yohrundel update. BANK1 and BANK2 are
-files of words, lowest byte first, each exactly one bank long; - is standard
-input. The sign's state is that after power-on and start-up, but for registers
-that an option sets.
+Q, B and P are the sign's sizes, and BANK1 and BANK2 files of its banks, as for
+yohrundel update; - is standard input. The sign's state is that after power-on
+and start-up, but for registers that an option sets.
 It prints a line for each page, bank 1 then bank 2, boot then program: the bank,
 B or P, the page of its kind, L or U for its side, 1 if protected else 0, and
 how many of its quads aren't blank.",
-    options: &[NVMCON, NVMPWP, NVMBWP],
+    options: &[REGISTER, NVMCON, NVMPWP, NVMBWP],
     keys: &[],
     run,
 };
@@ -50,29 +50,25 @@ fn run(mut arguments: Arguments) -> Answer {
     arguments.end()?;
     let (one, two) = (files::bank(geometry, one)?, files::bank(geometry, two)?);
     let mut device = started(geometry, one.clone(), two.clone())?;
-    for (register, value) in registers {
-        *register(&mut device) = value;
-    }
+    registers.set(&mut device);
     Ok(sheet(geometry, device, &one, &two)?)
 }
 
-/// A register of a device.
-type Register = fn(&mut Device) -> &mut u32;
-
-const REGISTERS: [(OptionSpec, Register); 3] = [
-    (NVMCON, |device| &mut device.nvmcon),
-    (NVMPWP, |device| &mut device.nvmpwp),
-    (NVMBWP, |device| &mut device.nvmbwp),
+/// The options that set one register each.
+const SINGLE: [(OptionSpec, u32); 3] = [
+    (NVMCON, register::NVMCON),
+    (NVMPWP, register::NVMPWP),
+    (NVMBWP, register::NVMBWP),
 ];
 
 /// The registers that are set, with their values.
-fn registers(arguments: &Arguments) -> Result<Vec<(Register, u32)>, Failure> {
-    let mut registers = Vec::new();
-    for (option, register) in REGISTERS {
+fn registers(arguments: &Arguments) -> Result<Registers, Failure> {
+    let mut settings = Vec::new();
+    for (option, register) in SINGLE {
         let value = arguments.value_form(&option, "a hexadecimal word", hexadecimal)?;
-        registers.extend(value.map(|value| (register, value)));
+        settings.extend(value.map(|value| (register, value)));
     }
-    Ok(registers)
+    Registers::of(arguments)?.and(settings)
 }
 
 /// The device after power-on and start-up. No operation runs, so no word changes.

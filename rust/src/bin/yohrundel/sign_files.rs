@@ -21,14 +21,21 @@ pub const SIZES: OptionSpec = OptionSpec::value(
 pub const BANK1: OptionSpec = OptionSpec::value(
     "--bank1",
     FILE,
-    "the sign's bank 1, a file of words, lowest byte first; it needs --bank2",
+    "the file of the sign's bank 1, as IMAGE of yohrundel update; it needs --bank2",
 );
 
 /// The file of bank 2.
 pub const BANK2: OptionSpec = OptionSpec::value(
     "--bank2",
     FILE,
-    "its bank 2; without these two the banks are as for yohrundel update",
+    "the file of its bank 2; without these two the banks are made up, as for yohrundel update",
+);
+
+/// The image of an update, where it is no positional argument.
+pub const IMAGE: OptionSpec = OptionSpec::value(
+    "--image",
+    FILE,
+    "the file of the image, as IMAGE of yohrundel update; without it the image is made up",
 );
 
 /// What the option --sizes says.

@@ -1,14 +1,18 @@
-//! `yohrundel update`: a whole update of a fresh sign.
+//! `yohrundel update`: a whole update of a sign.
 
 use yohrundel::Decline;
 
 use crate::arguments::Arguments;
 use crate::command::{Command, First};
 use crate::failure::Answer;
+use crate::given_sign::GivenSign;
 use crate::picture::{legend, picture};
 use crate::progress::Progress;
+use crate::registers::REGISTER;
+use crate::saves::{Saves, SAVE1, SAVE2};
 use crate::sign::Sign;
-use crate::sign_files::image;
+use crate::sign_files::{BANK1, BANK2};
+use crate::update_start::accepted;
 use crate::wording::{runs, whole_update};
 
 pub const COMMAND: Command = Command {
@@ -18,34 +22,41 @@ pub const COMMAND: Command = Command {
     summary: "runs a whole update of a sign",
     details: "\
 The sign has Q quads per row (1, 2, 4, 8, 16, 32, 64 or 128), B boot pages (1 to
-5) and P program pages (1 to 128) a bank. Its bank 1 runs with the sequence
-number 2, bank 2 holds an older firmware with the sequence number 1.
+5) and P program pages (1 to 128) a bank. Without --bank1 and --bank2 its words
+are made up: bank 1 runs with the sequence number 2, bank 2 holds an older
+firmware with the sequence number 1.
 IMAGE is a file of words, lowest byte first, exactly one bank long: (B + P) x
 128 x Q bytes; - is standard input. Without it the image is made up.
+Files of banks and images whose name ends in .hex, .ihex or .ihx are Intel HEX.
+There the boot pages are at 1FC00000 and the program pages at 1D000000; what no
+record gives is blank, and pages that are blank are not written.
 It prints the update's total and turns, which bank runs before and after it and
 why, whether the old bank kept every word and the new one is the image, and a
 picture of both banks before and after.
 Beside an update a probe may read registers while the key step is 0 or 1: such a
 read changes nothing. A read at key step 2 or 3 closes the key and loses a store
 of the update; see docs/POWER-FAIL.md.",
-    options: &[],
+    options: &[BANK1, BANK2, REGISTER, SAVE1, SAVE2],
     keys: &[],
     run,
 };
 
 fn run(mut arguments: Arguments) -> Answer {
     let mut progress = Progress::new();
+    let (given, saves) = (GivenSign::of(&arguments)?, Saves::of(&arguments)?);
     let geometry = arguments.geometry()?;
     let path = arguments.optional();
     arguments.end()?;
-    let mut sign = Sign::fresh(geometry, image(geometry, path)?)?;
-    let (report, legend) = (report(&mut sign, &mut progress)?, legend());
-    Ok(format!("{report}\n{legend}").into())
+    let mut sign = given.sign(geometry, path)?;
+    let total = accepted(&sign)?;
+    let (report, legend) = (report(&mut sign, total, &mut progress)?, legend());
+    let bank = saves.write(&sign)?;
+    Ok(bank.unwrap_or(format!("{report}\n{legend}").into()))
 }
 
-fn report(sign: &mut Sign, progress: &mut Progress) -> Result<String, Decline> {
+/// An accepted update from its start to its end.
+fn report(sign: &mut Sign, total: u32, progress: &mut Progress) -> Result<String, Decline> {
     let (runs, before) = (runs(sign), picture(sign)?);
-    let total = sign.start()?;
     let update = whole_update(sign, total, progress)?;
     Ok(format!(
         "Before the update {runs}.\n\n{before}\nThe update is accepted. {update}"
