@@ -29,7 +29,7 @@ impl<'a> GivenSign<'a> {
     /// these map another bank lower than the reset did, no update is accepted.
     pub fn sign(&self, geometry: Geometry, image: Option<&OsStr>) -> Result<Sign, Failure> {
         let mut sign = self.banks.sign(geometry, image)?;
-        self.registers.set(&mut sign.device);
+        self.registers.set(sign.device_mut());
         Ok(sign)
     }
 }

@@ -32,7 +32,7 @@ pub fn line(record: &[u8]) -> Option<String> {
     let value = u32::from_le_bytes(value);
     match kind {
         STORE => {
-            let register = register::NAMES.get(usize::from(second))?;
+            let register = register_name(second.into())?;
             let form = name(&FORMS, form)?;
             Some(format!("store {register} {form} 0x{value:08X}"))
         }
@@ -44,12 +44,13 @@ pub fn line(record: &[u8]) -> Option<String> {
 
 /// The name of a register.
 pub fn register_name(number: u32) -> Option<&'static str> {
-    name(&REGISTERS, number.try_into().ok()?)
+    register::NAMES.get(number as usize).copied()
 }
 
 /// The number of a register.
-pub fn register_number(name: &str) -> Option<u32> {
-    number(&REGISTERS, name)
+pub fn register_number(word: &str) -> Option<u32> {
+    let number = register::NAMES.iter().position(|name| *name == word);
+    number.map(|number| number as u32)
 }
 
 fn name(all: &[Named], number: u8) -> Option<&'static str> {
@@ -84,11 +85,6 @@ fn store(words: &mut SplitWhitespace) -> Result<[u8; RECORD], String> {
     let stored = form(words, "the form", names, |word| number(&FORMS, word))?;
     let value = form(words, "the value", "a hexadecimal word", hexadecimal)?;
     Ok(bytes(STORE, register, stored, value))
-}
-
-fn register_number(word: &str) -> Option<u32> {
-    let number = register::NAMES.iter().position(|name| *name == word);
-    number.map(|number| number as u32)
 }
 
 fn number(all: &[Named], word: &str) -> Option<u32> {

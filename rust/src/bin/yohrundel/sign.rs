@@ -3,7 +3,7 @@
 use std::ops::Deref;
 
 use yohrundel::reset_kind::POWER_ON;
-use yohrundel::{start_up_stores, Bank, Decline, Geometry, Reason};
+use yohrundel::{start_up_stores, Bank, Decline, Device, Geometry, Reason};
 
 use crate::progress::Progress;
 
@@ -96,6 +96,11 @@ impl Sign {
     pub fn new_quad(&self) -> Result<&[u32], Decline> {
         let first = self.geometry.sequence_index()?;
         Ok(&self.new[first..first + 4])
+    }
+
+    /// The record, for registers that are set from outside.
+    pub fn device_mut(&mut self) -> &mut Device {
+        &mut self.now.device
     }
 
     /// A bank as it was before the update or the play.

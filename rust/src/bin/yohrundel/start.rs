@@ -87,7 +87,7 @@ fn json(total: Option<u32>, declined: Option<&Declined>) -> Json {
         ("decline", decline.map(Decline::number).into()),
         (
             "sentence",
-            decline.map(|decline| decline.to_string()).into(),
+            decline.map(|decline| decline.sentence()).into(),
         ),
         ("cause", cause.into()),
     ])
