@@ -78,6 +78,7 @@ fn record_clause(record: &[u8; RECORD]) -> Option<RecordClause> {
 impl fmt::Display for ScriptClause {
     fn fmt(&self, f: &mut fmt::Formatter<'_>) -> fmt::Result {
         match self {
+            ScriptClause::Length { bytes: 1 } => f.write_str("1 byte is no multiple of 8"),
             ScriptClause::Length { bytes } => write!(f, "{bytes} bytes are no multiple of 8"),
             ScriptClause::Record { number, clause } => write!(f, "record {number} has {clause}"),
         }

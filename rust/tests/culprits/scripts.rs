@@ -27,7 +27,9 @@ fn second(record: [u8; 8]) -> Told {
 
 #[test]
 fn lengths() {
-    for bytes in [1, 7, 9, 15] {
+    let one = text("1 byte is no multiple of 8");
+    assert_eq!(Sign::new().play(&[9]), one);
+    for bytes in [2, 7, 9, 15] {
         let expected = text(&format!("{bytes} bytes are no multiple of 8"));
         assert_eq!(Sign::new().play(&[9; 16][..bytes]), expected);
     }
