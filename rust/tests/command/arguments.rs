@@ -209,34 +209,62 @@ fn declined(arguments: &str, reason: &str) {
 
 #[test]
 fn declined_arguments() {
-    let reason = "1: the quads per row, boot pages or program pages are out of range";
-    for geometry in [
-        "0 1 1", "3 1 1", "256 1 1", "1 0 1", "1 6 1", "1 1 0", "1 1 129",
-    ] {
-        declined(&format!("update {geometry}"), reason);
-        declined(&format!("cut {geometry} 0 0"), reason);
-        declined(&format!("sheet {geometry} - -"), reason);
-        declined(&format!("reach {geometry} - -"), reason);
-        declined(&format!("script {geometry}"), reason);
-        let sizes = geometry.replace(' ', ",");
-        declined(&format!("play - --sizes {sizes}"), reason);
-        declined(&format!("smallest - 6 --sizes {sizes}"), reason);
-        declined(&format!("row 0 0 {geometry}"), reason);
-    }
     let reason = "13: the place exceeds the total: PLACE is 253, the total 252";
     declined("cut 1 1 1 253 0", reason);
     declined("cut 1 1 1 253 0 --read 1D000001", reason);
     declined("cut 1 1 1 0 0 --then 253 0", reason);
     declined("cut 1 1 1 0 0 --then 252 0 --then 253 0", reason);
-    let reason = "8: there is no such address or page: ADDRESS is 0x00000000";
-    declined("cut 1 1 1 0 0 --then 1 1 --read 0", reason);
-    for address in ["1D000001", "1cfffffc", "0x1D000100", "0", "FFFFFFFF"] {
-        let number = address.trim_start_matches("0x").to_uppercase();
-        let reason = "8: there is no such address or page: ADDRESS is 0x";
-        declined(
-            &format!("cut 1 1 1 19 0 --read {address}"),
-            &format!("{reason}{number:0>8}"),
-        );
+}
+
+/// The quads per row are in a list, boot pages 1 to 5, program pages 1 to 128; Q is judged before B and B before P.
+#[test]
+fn declined_sizes() {
+    let quads = "not 1, 2, 4, 8, 16, 32, 64 or 128";
+    for (geometry, cause) in [
+        ("0 1 1", format!("Q is 0, {quads}")),
+        ("3 1 1", format!("Q is 3, {quads}")),
+        ("256 0 0", format!("Q is 256, {quads}")),
+        ("1 0 1", String::from("B is 0, not 1 to 5")),
+        ("1 6 129", String::from("B is 6, not 1 to 5")),
+        ("1 1 0", String::from("P is 0, not 1 to 128")),
+        ("1 1 129", String::from("P is 129, not 1 to 128")),
+    ] {
+        let range = "1: the quads per row, boot pages or program pages are out of range";
+        let reason = format!("{range}: {cause}");
+        let sizes = geometry.replace(' ', ",");
+        for arguments in [
+            format!("update {geometry}"),
+            format!("cut {geometry} 0 0"),
+            format!("sheet {geometry} - -"),
+            format!("reach {geometry} - -"),
+            format!("script {geometry}"),
+            format!("row 0 0 {geometry}"),
+            format!("play - --sizes {sizes}"),
+            format!("smallest - 6 --sizes {sizes}"),
+        ] {
+            declined(&arguments, &reason);
+        }
+    }
+}
+
+/// A page has 128 bytes here; both program regions adjoin.
+#[test]
+fn declined_addresses() {
+    let windows = "0x1D000000 to 0x1D0000FF, 0x1FC00000 to 0x1FC0007F or 0x1FC20000 to 0x1FC2007F";
+    let outside = |number: &str| format!("{number} is not in {windows}");
+    let odd = |number: &str| format!("{number} is no multiple of 4");
+    for (address, cause) in [
+        ("1D000001", odd("0x1D000001")),
+        ("0x1fc2007e", odd("0x1FC2007E")),
+        ("1cfffffc", outside("0x1CFFFFFC")),
+        ("0x1D000100", outside("0x1D000100")),
+        ("0", outside("0x00000000")),
+        ("FFFFFFFF", outside("0xFFFFFFFF")),
+    ] {
+        let reason = format!("8: there is no such address or page: ADDRESS {cause}");
+        declined(&format!("cut 1 1 1 19 0 --read {address}"), &reason);
+        let then = format!("cut 1 1 1 0 0 --then 1 1 --read {address}");
+        declined(&then, &reason);
     }
 }
 

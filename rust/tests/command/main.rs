@@ -1,6 +1,7 @@
 //! The command `yohrundel`, run as a program. What it must print is computed by the outside model.
 
 mod arguments;
+mod causes;
 mod completion;
 mod help;
 mod hex;

@@ -206,7 +206,7 @@ fn rows() {
 /// What is declined prints no object.
 #[test]
 fn no_object_of_what_is_declined() {
-    let reason = "plan: declined by 16: no wait fits";
+    let reason = "plan: declined by 16: no wait fits: the duration is 2, the longest window 1";
     assert_eq!(run(&["plan", "0", "2", "0:1", "--json"]).reason(1), reason);
 }
 

@@ -55,7 +55,7 @@ fn status_in_a_shell() {
 fn closed_pipe_of_a_declined_script() {
     let mut child = spawn(&["play", "-"]);
     drop(child.stdout.take());
-    let reason = "play: declined by 14: the script is malformed: record 0";
+    let reason = "play: declined by 14: the script is malformed: 2 bytes are no multiple of 8";
     assert_eq!(finish(child, b"no").reason(1), reason);
 }
 

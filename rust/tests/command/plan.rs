@@ -35,35 +35,52 @@ fn written(random: &mut Random, minute: u32) -> String {
     }
 }
 
-/// What a plan prints beside its reason where it is declined.
-pub fn expected(now: u32, duration: u32, windows: &[Window]) -> Result<String, &'static str> {
+/// What a plan prints, or why no wait fits. All its numbers are in range.
+pub fn expected(now: u32, duration: u32, windows: &[Window]) -> Result<String, String> {
     match plan(now, duration, windows) {
         Ok(wait) => {
             let (day, time) = day_and_time((now + wait) % WEEK);
             let minutes = if wait == 1 { "minute" } else { "minutes" };
             Ok(format!("Wait {wait} {minutes}, until {day} {time}.\n"))
         }
-        Err(Refusal::WeekRange) => Err("15: a number of the plan is out of range"),
-        Err(Refusal::NoWait) => Err("16: no wait fits"),
+        Err(Refusal::NoWait) => {
+            let longest = windows.iter().map(|window| window.length).max();
+            let longest = longest.expect("a window");
+            let cause = format!("the duration is {duration}, the longest window {longest}");
+            Err(format!("16: no wait fits: {cause}"))
+        }
         Err(refusal) => panic!("{refusal:?}"),
     }
 }
 
-/// Compares one plan; true where it is not declined.
-fn compare(random: &mut Random, now: u32, duration: u32, windows: &[Window]) -> bool {
+/// A plan whose times are written in any of the forms.
+fn asked(random: &mut Random, now: u32, duration: u32, windows: &[Window]) -> Ran {
     let texts: Vec<String> = windows
         .iter()
         .map(|window| format!("{}:{}", written(random, window.start), window.length))
         .collect();
-    let ran = planned(&written(random, now), &duration.to_string(), &texts);
+    planned(&written(random, now), &duration.to_string(), &texts)
+}
+
+/// Compares one plan; true where it is not declined.
+fn compare(random: &mut Random, now: u32, duration: u32, windows: &[Window]) -> bool {
+    let ran = asked(random, now, duration, windows);
     match expected(now, duration, windows) {
-        Ok(expected) => assert_eq!(ran.printed(), expected, "{now} {duration} {texts:?}"),
+        Ok(expected) => assert_eq!(ran.printed(), expected, "{now} {duration} {windows:?}"),
         Err(reason) => {
             assert_eq!(ran.reason(1), format!("plan: declined by {reason}"));
             return false;
         }
     }
     true
+}
+
+/// A plan of which a number is out of range.
+fn out_of_range(now: u32, duration: u32, windows: &[Window], cause: &str) {
+    assert_eq!(plan(now, duration, windows), Err(Refusal::WeekRange));
+    let ran = asked(&mut Random::new(10), now, duration, windows);
+    let reason = "declined by 15: a number of the plan is out of range";
+    assert_eq!(ran.reason(1), format!("plan: {reason}: {cause}"));
 }
 
 pub fn window(start: u32, length: u32) -> Window {
@@ -102,21 +119,33 @@ fn short_waits() {
 fn edges_of_the_ranges() {
     let random = &mut Random::new(6);
     let whole = [window(0, WEEK)];
-    for (now, duration, fits) in [
-        (0, 1, true),
-        (WEEK - 1, LONGEST, true),
-        (WEEK, 1, false),
-        (0, 0, false),
-        (0, LONGEST + 1, false),
-        (u32::MAX, u32::MAX, false),
-    ] {
-        assert_eq!(compare(random, now, duration, &whole), fits);
-    }
-    for (start, length) in [(WEEK, 1), (0, 0), (0, WEEK + 1), (0, 59)] {
-        assert!(!compare(random, 0, 60, &[window(start, length)]));
-    }
+    assert!(compare(random, 0, 1, &whole));
+    assert!(compare(random, WEEK - 1, LONGEST, &whole));
+    assert!(!compare(random, 0, 60, &[window(0, 59)]));
     assert!(compare(random, 5, 60, &[window(0, 60); MOST_WINDOWS]));
-    assert!(!compare(random, 5, 60, &[window(0, 60); MOST_WINDOWS + 1]));
+}
+
+/// NOW, DURATION, the count of the windows and then each window, its start before its length.
+#[test]
+fn numbers_out_of_range() {
+    let whole = [window(0, WEEK)];
+    let late = "the minute is 10080, not 0 to 10079";
+    out_of_range(WEEK, 1, &whole, late);
+    out_of_range(WEEK, 0, &[window(WEEK, 0); 15], late);
+    out_of_range(0, 0, &whole, "the duration is 0, not 1 to 1440");
+    let long = "the duration is 1441, not 1 to 1440";
+    out_of_range(0, LONGEST + 1, &[window(WEEK, 0); 15], long);
+    let many = "there are 15 windows, not 1 to 14";
+    out_of_range(0, 1, &[window(WEEK, 0); MOST_WINDOWS + 1], many);
+    let start = "window 2 of 3 starts at minute 10080, not 0 to 10079";
+    let windows = [window(0, 1), window(WEEK, 0), window(0, 0)];
+    out_of_range(0, 1, &windows, start);
+    let empty = "window 1 of 1 has the length 0, not 1 to 10080";
+    out_of_range(0, 60, &[window(0, 0)], empty);
+    let length = "window 2 of 2 has the length 10081, not 1 to 10080";
+    out_of_range(0, 1, &[window(0, 1), window(0, WEEK + 1)], length);
+    let largest = "the minute is 4294967295, not 0 to 10079";
+    out_of_range(u32::MAX, u32::MAX, &whole, largest);
 }
 
 const WRONG_TIMES: [&str; 18] = [

@@ -46,10 +46,11 @@ fn empty_and_longest_scripts() {
 
 #[test]
 fn no_scripts() {
-    refused(&SCRIPT[..SCRIPT.len() - 1], "record 8");
-    refused(&[3, 0, 0, 0, 0, 0, 0, 0], "record 0");
+    refused(&SCRIPT[..SCRIPT.len() - 1], "71 bytes are no multiple of 8");
+    let kind = "record 0 has the kind 3, not 0 to 2";
+    refused(&[3, 0, 0, 0, 0, 0, 0, 0], kind);
     let unused = [SCRIPT, &[1, 0, 0, 0, 0, 0, 0, 1], SCRIPT].concat();
-    refused(&unused, "record 9");
+    refused(&unused, "record 9 has 0x01 in its unused byte 7, not 0");
     refused(&vec![0; BYTE_LIMIT + 8], "more than 65536 bytes");
 }
 

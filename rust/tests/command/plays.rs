@@ -7,6 +7,7 @@ use model::random::Random;
 use model::script::{records, Record, BYTE_LIMIT};
 use model::sequence::word_of;
 
+use crate::causes::malformed;
 use crate::outside::Sign;
 use crate::run::{bytes, finish, run, spawn, Ran};
 use crate::scripts::{named, random_words, script, written};
@@ -128,6 +129,8 @@ fn other_scripts_on_other_signs() {
         let ran = play(&other, &["--sizes", &size, "--restart"]);
         if records(&other).is_err() {
             assert_eq!((ran.status, ran.out.as_slice()), (Some(1), &b"14\n"[..]));
+            let reason = format!("play: declined by {}", malformed(&other));
+            assert_eq!(ran.err, format!("yohrundel: {reason}\n"));
             continue;
         }
         let (lines, said) = played(&mut Sign::fresh(numbers, None), &other);

@@ -5,6 +5,7 @@ use std::fs;
 use model::random::Random;
 use model::sequence::word_of;
 
+use crate::causes;
 use crate::outside::Sign;
 use crate::run::{bytes, file, finish, run, spawn, Ran};
 use crate::updates::geometry_text;
@@ -87,9 +88,8 @@ fn scripts_of_banks_in_files() {
                 accepted[usize::from(sign.device.registers[0] & 0x40 != 0)] += 1;
             }
             Err(refusal) => {
-                let reason = ran.reason(1);
-                let front = format!("script: declined by {}: ", refusal.number());
-                assert!(reason.starts_with(&front), "{reason}");
+                let reason = causes::started(&sign, refusal);
+                assert_eq!(ran.reason(1), format!("script: declined by {reason}"));
                 declined.push(refusal.number());
             }
         }
@@ -141,8 +141,10 @@ fn no_file_of_a_declined_start() {
     let path = named("script-declined", b"kept");
     let options = ["--bank1", &blank, "--bank2", &blank, "-o", &path];
     let reason = "10: the sequence words or the mapping do not allow an update";
-    let printed = script("1 1 1", &options).reason(1);
-    let front = format!("script: declined by {reason}");
-    assert!(printed.starts_with(&front), "{printed}");
+    let cause = "bank 1, on the lower alias, has no valid sequence word: 0xFFFFFFFF";
+    assert_eq!(
+        script("1 1 1", &options).reason(1),
+        format!("script: declined by {reason}: {cause}")
+    );
     assert_eq!(fs::read(&path).expect("a file"), b"kept");
 }

@@ -124,14 +124,55 @@ fn sides_by_the_sequence_numbers() {
     }
 }
 
+/// Registers by which no device is possible, with the clause of the paper's sentence that they meet first. No operation was launched, so
+/// that the launched NVMADDR is 0.
+const IMPOSSIBLE: &[(&[(usize, &str, u32)], &str)] = &[
+    (
+        &[(NVMCON, "--nvmcon", 0x1_0000), (NVMBWP, "--nvmbwp", 0)],
+        "NVMCON is 0x00010000, with a bit outside its mask 0x0000F0CF",
+    ),
+    (
+        &[(NVMPWP, "--nvmpwp", 1 << 30)],
+        "NVMPWP is 0x40000000, with a bit outside its mask 0x80FFFFFF",
+    ),
+    (
+        &[(NVMBWP, "--nvmbwp", 0x20)],
+        "NVMBWP is 0x00000020, with a bit outside its mask 0x00009FDF",
+    ),
+    (
+        &[(NVMCON, "--nvmcon", 0x8000), (NVMBWP, "--nvmbwp", 0)],
+        "NVMBWP is 0x00000000, with bit 6 clear",
+    ),
+    (
+        &[(NVMCON, "--nvmcon", 0x8000)],
+        "NVMCON is 0x00008000: WR = 1 and WRERR = 0",
+    ),
+    (
+        &[(NVMCON, "--nvmcon", 0xB002)],
+        "NVMCON is 0x0000B002: WR = 1 and LVDERR = 1",
+    ),
+    (
+        &[(NVMCON, "--nvmcon", 0xA008)],
+        "NVMCON is 0x0000A008: WR = 1, but no steps begin for NVMOP 8",
+    ),
+    (
+        &[(NVMCON, "--nvmcon", 0xA002)],
+        "the launched NVMADDR is 0x00000000, outside the four windows",
+    ),
+    (
+        &[(NVMCON, "--nvmcon", 0xA005), (NVMPWP, "--nvmpwp", 1)],
+        "NVMPWP is 0x00000001 and protects a page that NVMOP 5 erases",
+    ),
+];
+
 #[test]
 fn impossible_registers() {
     let banks = [vec![!0; 64], vec![!0; 64]];
     let [one, two] = &files("impossible", &banks);
-    let reason = "sheet: declined by 3: the device record is impossible";
-    for (option, value) in [("--nvmcon", 0x8000), ("--nvmpwp", 1 << 30), ("--nvmbwp", 0)] {
-        let ran = sheet([1, 1, 1], [one, two], &[(0, option, value)]);
-        assert_eq!(ran.reason(1), reason);
+    for (registers, cause) in IMPOSSIBLE {
+        let ran = sheet([1, 1, 1], [one, two], registers);
+        let reason = "sheet: declined by 3: the device record is impossible";
+        assert_eq!(ran.reason(1), format!("{reason}: {cause}"));
     }
 }
 

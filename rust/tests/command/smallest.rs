@@ -8,6 +8,7 @@ use model::script::{records, Record};
 use model::sequence::word_of;
 use model::Refusal;
 
+use crate::causes;
 use crate::outside::Sign;
 use crate::play::SCRIPT;
 use crate::run::{bytes, finish, run, spawn, Ran};
@@ -58,8 +59,8 @@ fn check(sign: &Sign, script: &[u8], number: u32, options: &[&str]) -> Option<us
     let left = match sign.smallest(script, number) {
         Ok(left) => left,
         Err(refusal) => {
-            let front = format!("smallest: declined by {}: ", refusal.number());
-            assert!(ran.reason(1).starts_with(&front));
+            let reason = causes::smallest(sign, script, number, refusal);
+            assert_eq!(ran.reason(1), format!("smallest: declined by {reason}"));
             return None;
         }
     };
@@ -175,18 +176,25 @@ fn declined_scripts() {
         let reason = smallest(script, number, &[]).reason(1);
         assert_eq!(reason, format!("smallest: declined by {expected}"));
     };
-    sentence(&step[..7], 6, "14: the script is malformed: record 0");
+    let malformed = "14: the script is malformed: ";
+    let short = format!("{malformed}7 bytes are no multiple of 8");
+    sentence(&step[..7], 6, &short);
     let bad = [&step[..], &[3; 8], &step.repeat(70)].concat();
-    sentence(&bad, 0, "14: the script is malformed: record 1");
+    let kind = format!("{malformed}record 1 has the kind 3, not 0 to 2");
+    sentence(&bad, 0, &kind);
     let many = "20: the script has more than 64 records: it has ";
-    sentence(&step.repeat(65), 6, &format!("{many}65"));
-    sentence(&step.repeat(10_000), 0, &format!("{many}10000"));
+    sentence(&step.repeat(65), 6, &format!("{many}65 records"));
+    sentence(&step.repeat(10_000), 0, &format!("{many}10000 records"));
     assert_eq!(smallest(&step.repeat(64), 6, &[]).status, Some(0));
-    for number in [0, 1, 4, 5, 7, 14, 21, u32::MAX] {
-        let never = format!("21: the play never gives the number: NUMBER is {number}");
-        sentence(&step, number, &never);
+    let never = "21: the play never gives the number: the number is ";
+    for number in [1, 4, 5, 7, 14, 21, u32::MAX] {
+        let given = format!("{never}{number}, and the play gives 6");
+        sentence(&step, number, &given);
     }
-    sentence(b"", 6, "21: the play never gives the number: NUMBER is 6");
+    let zero = format!("{never}0, which counts as never given");
+    sentence(&[0; 8], 0, &zero);
+    let empty = format!("{never}6, and the script has no record");
+    sentence(b"", 6, &empty);
     assert_eq!(Sign::bench().smallest(b"", 6), Err(Refusal::NotShown));
 }
 

@@ -70,23 +70,37 @@ fn accepted_starts() {
 /// Neither word is valid; the other could become it by a torn erase; a reset would choose the other bank; the swaps differ.
 #[test]
 fn declined_by_10() {
-    let told = |one: u32, two: u32, nvmcon: u32| {
-        format!(
-            "the sequence word is 0x{one:08X} in bank 1 and 0x{two:08X} in bank 2, \
-             NVMCON is 0x{nvmcon:08X}"
-        )
+    let invalid = "bank 1, on the lower alias, has no valid sequence word: 0x";
+    let torn = |bank| {
+        format!("a torn erase could make bank {bank}'s sequence word valid: no bit position is 1 in both halves of 0x00000000")
     };
-    for (one, two, options, nvmcon) in [
-        (!0, !0, "", 0),
-        (0, !0, "", 0),
-        (word_of(1), 0, "", 0),
-        (0, word_of(1), "", 0xC0),
-        (word_of(65_535), 0, "", 0),
-        (word_of(1), word_of(2), " --register NVMCON=0", 0),
-        (word_of(2), word_of(1), " --register NVMCON=C0", 0xC0),
-        (word_of(2), word_of(1), " --register NVMCON=80", 0x80),
+    let other =
+        |bank| format!("a reset would choose bank {bank}, as its sequence number is the higher one: ");
+    for (one, two, options, cause) in [
+        (!0, !0, "", format!("{invalid}FFFFFFFF")),
+        (0, !0, "", format!("{invalid}00000000")),
+        (word_of(1), 0, "", torn(2)),
+        (0, word_of(1), "", torn(1)),
+        (word_of(65_535), 0, "", torn(2)),
+        (
+            word_of(1),
+            word_of(2),
+            " --register NVMCON=0",
+            other(2) + "bank 1 has 0xFFFE0001, bank 2 0xFFFD0002",
+        ),
+        (
+            word_of(2),
+            word_of(1),
+            " --register NVMCON=C0",
+            other(1) + "bank 1 has 0xFFFD0002, bank 2 0xFFFE0001",
+        ),
+        (
+            word_of(2),
+            word_of(1),
+            " --register NVMCON=80",
+            String::from("NVMCON is 0x00000080: PFSWAP = 1 and BFSWAP = 0"),
+        ),
     ] {
-        let cause = told(one, two, nvmcon);
         declined(start("ten", [one, two], options), 10, SEQUENCE, &cause);
     }
 }
@@ -95,10 +109,10 @@ fn declined_by_10() {
 #[test]
 fn declined_by_11() {
     let last = 0x0000_FFFF;
-    let cause = "bank 1 runs with it";
+    let cause = "T is 65535: bank 1 has the sequence word 0x0000FFFF";
     declined(start("eleven", [last, !0], ""), 11, LAST, cause);
     declined(start("eleven", [last, last], ""), 11, LAST, cause);
-    let cause = "bank 2 runs with it";
+    let cause = "T is 65535: bank 2 has the sequence word 0x0000FFFF";
     declined(start("eleven", [word_of(9), last], ""), 11, LAST, cause);
     let options = " --register NVMBWP=40";
     declined(start("eleven", [!0, last], options), 11, LAST, cause);
@@ -111,15 +125,15 @@ fn declined_by_12() {
     for (options, cause) in [
         (
             " --register NVMBWP=9F5F",
-            "NVMPWP is 0x80000000, NVMBWP is 0x00009F5F",
+            "NVMBWP is 0x00009F5F: UBWPULOCK = 0",
         ),
         (
             " --register NVMPWP=80",
-            "NVMPWP is 0x00000080, NVMBWP is 0x00009FDF",
+            "NVMPWP is 0x00000080: PWP is not below 0x000080",
         ),
         (
             " --register NVMPWP=80FFFFFF",
-            "NVMPWP is 0x80FFFFFF, NVMBWP is 0x00009FDF",
+            "NVMPWP is 0x80FFFFFF: PWP is not below 0x000080",
         ),
     ] {
         declined(start("twelve", words, options), 12, PROTECTION, cause);
@@ -130,27 +144,31 @@ fn declined_by_12() {
 #[test]
 fn declined_by_3_and_5() {
     let words = [word_of(1), !0];
-    let reason = "start: declined by 3: the device record is impossible";
-    for register in [
-        "NVMBWP=9F9F",
-        "NVMCON=100",
-        "NVMCON=8000",
-        "NVMCON=E004",
-        "NVMCON=A001",
+    for (register, cause) in [
+        ("NVMBWP=9F9F", "NVMBWP is 0x00009F9F, with bit 6 clear"),
+        (
+            "NVMCON=100",
+            "NVMCON is 0x00000100, with a bit outside its mask 0x0000F0CF",
+        ),
+        ("NVMCON=8000", "NVMCON is 0x00008000: WR = 1 and WRERR = 0"),
+        (
+            "NVMCON=E004",
+            "the launched NVMADDR is 0x00000000, outside the four windows",
+        ),
+        (
+            "NVMCON=A001",
+            "NVMCON is 0x0000A001: WR = 1, but no steps begin for NVMOP 1",
+        ),
     ] {
-        let options = format!(" --register {register}");
-        assert_eq!(
-            start("three", words, &options).reason(1),
-            reason,
-            "{register}"
-        );
+        let ran = start("three", words, &format!(" --register {register}"));
+        declined(ran, 3, "the device record is impossible", cause);
     }
     let options = " --register NVMCON=E004 --register NVMADDR=1FC20000";
     declined(
         start("five", words, options),
         5,
         "an operation is running",
-        "NVMCON is 0x0000E004",
+        "an update start with WR = 1: NVMCON is 0x0000E004",
     );
 }
 
@@ -165,7 +183,7 @@ fn other_commands() {
     ] {
         let line = format!("{command} --register NVMPWP=80");
         let arguments: Vec<&str> = line.split(' ').collect();
-        let cause = "NVMPWP is 0x00000080, NVMBWP is 0x00009FDF";
+        let cause = "NVMPWP is 0x00000080: PWP is not below 0x000080";
         let expected = format!("{}: declined by 12: {PROTECTION}: {cause}", arguments[0]);
         assert_eq!(run(&arguments).reason(1), expected);
     }
@@ -204,11 +222,16 @@ fn objects() {
         accepted
     );
     let ran = start("object-11", [0xFFFF, !0], " --json");
-    let expected = declined_object(11, LAST, Some("bank 1 runs with it"));
+    let expected = declined_object(
+        11,
+        LAST,
+        Some("T is 65535: bank 1 has the sequence word 0x0000FFFF"),
+    );
     assert_eq!(answered(ran, 1), expected);
     let ran = run(&["start", "3", "1", "1", "--json"]);
     let sentence = "the quads per row, boot pages or program pages are out of range";
-    assert_eq!(answered(ran, 1), declined_object(1, sentence, None));
+    let cause = "Q is 3, not 1, 2, 4, 8, 16, 32, 64 or 128";
+    assert_eq!(answered(ran, 1), declined_object(1, sentence, Some(cause)));
     let short = named("start-short", &[0; 255]);
     let ran = run(&["start", "1", "1", "1", "--json", &short]);
     let sentence = "a bank, the image, the SRAM or the result has a wrong length";

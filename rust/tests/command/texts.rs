@@ -6,6 +6,7 @@ use std::path::Path;
 use model::generate::{record_edges, refused_scripts, script};
 use model::script::{records, Record};
 
+use crate::causes::malformed;
 use crate::run::{finish, run, spawn, Ran};
 use crate::scripts::{named, written};
 
@@ -61,9 +62,8 @@ fn check(script: &[u8]) {
             assert!(written(made(expected.as_bytes())) == script, "{expected}");
         }
         Err(_) => {
-            let reason = listed(script).reason(1);
-            let front = "script: declined by 14: the script is malformed: record ";
-            assert!(reason.starts_with(front), "{reason}");
+            let reason = format!("script: declined by {}", malformed(script));
+            assert_eq!(listed(script).reason(1), reason);
         }
     }
 }
@@ -119,13 +119,12 @@ fn no_scripts() {
     }
     let step = Record::Step.bytes();
     let script = [&step[..], &step, &[1, 0, 0, 0, 0, 0, 0, 1], &step].concat();
-    let reason = "declined by 14: the script is malformed: record 2";
-    assert_eq!(listed(&script).reason(1), format!("script: {reason}"));
-    assert_eq!(listed(&script[..9]).reason(1), reason_of_record(1));
-}
-
-fn reason_of_record(number: u32) -> String {
-    format!("script: declined by 14: the script is malformed: record {number}")
+    let reason = "script: declined by 14: the script is malformed";
+    let unused = "record 2 has 0x01 in its unused byte 7, not 0";
+    assert_eq!(listed(&script).reason(1), format!("{reason}: {unused}"));
+    let length = "9 bytes are no multiple of 8";
+    let expected = format!("{reason}: {length}");
+    assert_eq!(listed(&script[..9]).reason(1), expected);
 }
 
 /// The largest script is printed and made again, in files.

@@ -4,9 +4,10 @@ use std::collections::VecDeque;
 use std::ffi::OsStr;
 use std::mem;
 
+use yohrundel::culprit::{size_clause, Culprit};
 use yohrundel::Geometry;
 
-use crate::failure::Failure;
+use crate::failure::{explained, Failure};
 use crate::options::OptionSpec;
 
 /// What is given to a command, or to one part of it.
@@ -114,14 +115,13 @@ impl<'a> Arguments<'a> {
         self.form(name, DECIMAL_WORDS, decimal)
     }
 
-    /// Q, B and P, which the library judges.
+    /// Q, B and P.
     pub fn geometry(&mut self) -> Result<Geometry, Failure> {
-        let geometry = Geometry {
+        judged(Geometry {
             q: self.number("Q")?,
             b: self.number("B")?,
             p: self.number("P")?,
-        };
-        Ok(geometry)
+        })
     }
 
     /// There are no more positional arguments.
@@ -134,6 +134,13 @@ impl<'a> Arguments<'a> {
             None => Ok(()),
         }
     }
+}
+
+/// Sizes that the library takes.
+pub fn judged(geometry: Geometry) -> Result<Geometry, Failure> {
+    let clause = || size_clause(geometry).map(Culprit::Geometry);
+    let declined = |decline| explained(decline, clause());
+    geometry.bank_words().map(|_| geometry).map_err(declined)
 }
 
 /// An argument as text in a form, which the words name.

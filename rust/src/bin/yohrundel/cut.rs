@@ -3,9 +3,10 @@
 use yohrundel::Decline;
 
 use crate::arguments::Arguments;
+use crate::causes::{read, started};
 use crate::command::{Command, First};
 use crate::cut_arguments::{take_cuts, Cut, CUT_START_UP, READ, THEN};
-use crate::failure::{declined, Answer, Failure};
+use crate::failure::{Answer, Failure};
 use crate::given_sign::GivenSign;
 use crate::options::OptionSpec;
 use crate::picture::{legend, picture};
@@ -15,7 +16,6 @@ use crate::saves::{Saves, SAVE1, SAVE2};
 use crate::sign::Sign;
 use crate::sign_files::{BANK1, BANK2, IMAGE};
 use crate::torn::change;
-use crate::update_start::accepted;
 use crate::wording::{counted, ending, runs, whole_update};
 
 pub const COMMAND: Command = Command {
@@ -63,7 +63,7 @@ fn run(arguments: Arguments) -> Answer {
     let image = arguments.value(&IMAGE);
     let (geometry, cuts) = take_cuts(arguments)?;
     let mut sign = given.sign(geometry, image)?;
-    let total = accepted(&sign)?;
+    let total = started(&sign)?;
     if let Some(Cut { place, .. }) = cuts.iter().find(|cut| cut.place > total) {
         let cause = format!("PLACE is {place}, the total {total}");
         return Err(Failure::declined(Decline::Place, cause));
@@ -118,8 +118,7 @@ fn until_cut(sign: &mut Sign, cut: &Cut, progress: &mut Progress) -> Result<Stri
 
 /// A read of the CPU, as the rest of a sentence and one more.
 fn reading(sign: &mut Sign, address: u32) -> Result<String, Failure> {
-    let declined = |decline| Failure::declined(decline, format_args!("ADDRESS is 0x{address:08X}"));
-    let (word, steps) = sign.read(address).map_err(declined)?;
+    let (word, steps) = read(sign, address)?;
     let waits = match steps {
         Some(1) => String::from("waits for 1 step, the operation's last,"),
         Some(steps) => format!("waits for {steps} steps, to the operation's end,"),
@@ -176,13 +175,13 @@ fn again(sign: &mut Sign, left_out: bool, progress: &mut Progress) -> Result<Str
         let ending = ending(sign)?;
         return Ok(format!("The update is complete{rest}.\n{ending}"));
     }
-    match sign.start() {
+    match started(sign) {
         Ok(total) => {
             let update = whole_update(sign, total, progress)?;
             Ok(format!("The same update is accepted again. {update}"))
         }
-        Err(decline) => {
-            let (reason, ending) = (declined(decline), ending(sign)?);
+        Err(Failure { reason, .. }) => {
+            let ending = ending(sign)?;
             Ok(format!("The same update is {reason}.\n{ending}"))
         }
     }

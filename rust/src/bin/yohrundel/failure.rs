@@ -4,6 +4,7 @@ use std::ffi::OsStr;
 use std::fmt::Display;
 use std::io::{self, ErrorKind};
 
+use yohrundel::culprit::Culprit;
 use yohrundel::Decline;
 
 /// The work is declined, by one of the paper's numbers.
@@ -21,7 +22,10 @@ pub const CLOSED: u8 = 128 + 13;
 /// The statuses with what the help says of them.
 pub const STATUSES: [(u8, &str); 5] = [
     (0, "the work is done"),
-    (DECLINED, "the work is declined, by a number and its reason"),
+    (
+        DECLINED,
+        "the work is declined: by which number, why, and what was wrong is said",
+    ),
     (ARGUMENTS, "the arguments or a text are not understood"),
     (
         FILES,
@@ -95,8 +99,8 @@ impl Failure {
 
     fn of_decline(decline: Decline, cause: Option<String>) -> Failure {
         let reason = match &cause {
-            Some(cause) => format!("{}: {cause}", declined(decline)),
-            None => declined(decline),
+            Some(cause) => format!("{decline}: {cause}"),
+            None => decline.to_string(),
         };
         Failure {
             declined: Some(Declined { decline, cause }),
@@ -105,13 +109,16 @@ impl Failure {
     }
 }
 
+/// A decline with its cause, where the library's explanation finds it.
+pub fn explained(decline: Decline, culprit: Option<Culprit>) -> Failure {
+    match culprit {
+        Some(culprit) if culprit.decline() == decline => Failure::declined(decline, culprit),
+        _ => decline.into(),
+    }
+}
+
 impl From<Decline> for Failure {
     fn from(decline: Decline) -> Failure {
         Failure::of_decline(decline, None)
     }
-}
-
-/// A decline in words.
-pub fn declined(decline: Decline) -> String {
-    decline.to_string()
 }

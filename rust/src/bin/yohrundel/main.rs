@@ -1,6 +1,7 @@
 //! The command `yohrundel`: scripts, whole updates and updates that are cut, for people.
 
 mod arguments;
+mod causes;
 mod command;
 mod completion;
 mod cut;
@@ -41,7 +42,6 @@ mod timeline;
 mod times;
 mod torn;
 mod update;
-mod update_start;
 mod windows;
 mod wording;
 

@@ -1,10 +1,10 @@
 //! `yohrundel plan`: when a garage's hours hold a whole update.
 
-use yohrundel::plan;
+use yohrundel::{culprit, plan};
 
 use crate::arguments::{formed, Arguments};
 use crate::command::{Command, First};
-use crate::failure::{Answer, Failure};
+use crate::failure::{explained, Answer, Failure};
 use crate::json::{object, JSON};
 use crate::times::{read_minute, weekday_and_time, WEEK};
 use crate::windows::{read_window, Window, WINDOW_WORDS};
@@ -50,7 +50,9 @@ fn run(mut arguments: Arguments) -> Answer {
     let now = arguments.form("NOW", TIME, read_minute)?;
     let duration = arguments.number("DURATION")?;
     let windows = take_windows(&mut arguments)?;
-    let wait = plan(now, duration, &windows)?;
+    let culprit = || culprit::plan(now, duration, &windows);
+    let declined = |decline| explained(decline, culprit());
+    let wait = plan(now, duration, &windows).map_err(declined)?;
     let minute = (now + wait) % WEEK;
     let start = weekday_and_time(minute);
     if arguments.is_given(&JSON) {

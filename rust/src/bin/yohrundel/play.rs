@@ -1,19 +1,18 @@
 //! `yohrundel play`: what the play program prints, and plays on other signs.
 
 use std::ffi::OsStr;
-use std::fmt::Display;
 use std::io::{self, IsTerminal};
 
 use yohrundel::reset_kind::POWER_ON;
 use yohrundel::{Decline, Geometry};
 
 use crate::arguments::Arguments;
+use crate::causes::{impossible, malformed};
 use crate::command::{Command, First};
 use crate::failure::{Answer, Failure};
 use crate::files;
 use crate::options::OptionSpec;
 use crate::picture::{legend, picture};
-use crate::records::RECORD;
 use crate::saves::{Saves, SAVE1, SAVE2};
 use crate::sign::Sign;
 use crate::sign_files::{sizes, BankFiles, BANK1, BANK2, IMAGE, SIZES};
@@ -92,11 +91,13 @@ fn run(mut arguments: Arguments) -> Answer {
     let (mut sign, longest) = options.sign()?;
     let script = files::bytes(path, longest.saturating_add(1))?;
     if script.len() > longest {
-        return Err(refused(format_args!("more than {longest} bytes")));
+        let cause = format!("more than {longest} bytes");
+        return Err(refused(Failure::declined(Decline::Script, cause)));
     }
     let mut output = match sign.play(&script) {
-        Err(Decline::Script) => return Err(refused(malformed(&script)?)),
-        played => played?,
+        Err(Decline::Script) => return Err(refused(malformed(&script))),
+        Err(decline) => return Err(impossible(sign.geometry, &sign.device, decline)),
+        Ok(output) => output,
     };
     if options.restart {
         output.extend(restarted(&mut sign, &output)?.bytes());
@@ -134,18 +135,10 @@ fn count(lines: &str) -> String {
     )
 }
 
-/// The first record that is no script by itself.
-pub fn malformed(script: &[u8]) -> Result<String, Decline> {
-    let bench = Sign::bench()?;
-    let mut records = script.chunks(RECORD);
-    let number = records.position(|record| bench.play_length(record).is_err());
-    Ok(format!("record {}", number.unwrap_or(0)))
-}
-
 /// "Under decline 14, or with more than 65,536 bytes, the program prints only the line 14."
-fn refused(cause: impl Display) -> Failure {
+fn refused(failure: Failure) -> Failure {
     Failure {
         output: b"14\n".to_vec(),
-        ..Failure::declined(Decline::Script, cause)
+        ..failure
     }
 }

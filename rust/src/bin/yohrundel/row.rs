@@ -3,6 +3,7 @@
 use yohrundel::{Decline, MOST_SIGNS};
 
 use crate::arguments::{decimal, Arguments, DECIMAL_WORDS};
+use crate::causes::started;
 use crate::command::{Command, First};
 use crate::failure::{Answer, Failure};
 use crate::given_sign::GivenSign;
@@ -14,7 +15,6 @@ use crate::row_report::{Ending, Report, KEYS};
 use crate::row_signs::Row;
 use crate::sign_files::{BANK1, BANK2};
 use crate::timeline::Timeline;
-use crate::update_start::accepted;
 
 pub const COMMAND: Command = Command {
     name: "row",
@@ -53,7 +53,7 @@ fn run(mut arguments: Arguments) -> Answer {
     arguments.end()?;
     let sign = given.sign(geometry, path)?;
     check_range(signs, k)?;
-    let total = accepted(&sign)?;
+    let total = started(&sign)?;
     let mut row = Row::of(sign, total, signs, k);
     let calls = last_call(&row, cut)?;
     let timeline = serve(&mut row, calls, &mut progress)?;

@@ -2,21 +2,18 @@
 
 use std::ffi::OsStr;
 
-use yohrundel::Decline;
-
 use crate::arguments::Arguments;
+use crate::causes::{malformed, written};
 use crate::command::{Command, First};
 use crate::failure::{Answer, Failure};
 use crate::files;
 use crate::given_sign::GivenSign;
 use crate::options::{OptionSpec, FILE};
 use crate::output::{Output, OUT};
-use crate::play::malformed;
 use crate::records::{line, record, RECORD};
 use crate::registers::REGISTER;
 use crate::sign::Sign;
 use crate::sign_files::{BANK1, BANK2};
-use crate::update_start::accepted;
 use crate::wording::counted;
 
 pub const COMMAND: Command = Command {
@@ -86,8 +83,7 @@ fn write(mut arguments: Arguments, output: &Output) -> Answer {
     arguments.end()?;
     output.refuse_terminal()?;
     let sign = given.sign(geometry, image)?;
-    accepted(&sign)?;
-    let (script, number) = (sign.script()?, sign.sequence_number()?);
+    let (script, number) = (written(&sign)?, sign.sequence_number()?);
     let said = format!(
         "{}It serves signs of these sizes that run with the sequence number {number} and accept\n\
          the update.\n",
@@ -111,7 +107,7 @@ fn list(path: &OsStr, output: &Output) -> Answer {
         .map(|record| Some(line(record)? + "\n"));
     match lines.collect::<Option<String>>() {
         Some(text) if played.is_ok() => output.put(text.into(), length(&script)),
-        _ => Err(Failure::declined(Decline::Script, malformed(&script)?)),
+        _ => Err(malformed(&script)),
     }
 }
 

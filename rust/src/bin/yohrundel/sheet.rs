@@ -4,6 +4,7 @@ use yohrundel::reset_kind::POWER_ON;
 use yohrundel::{page_sheet, register, reset, start_up, Decline, Device, Geometry};
 
 use crate::arguments::{hexadecimal, Arguments};
+use crate::causes::impossible;
 use crate::command::{Command, First};
 use crate::failure::{Answer, Failure};
 use crate::files;
@@ -51,7 +52,8 @@ fn run(mut arguments: Arguments) -> Answer {
     let (one, two) = (files::bank(geometry, one)?, files::bank(geometry, two)?);
     let mut device = started(geometry, one.clone(), two.clone())?;
     registers.set(&mut device);
-    Ok(sheet(geometry, device, &one, &two)?)
+    let declined = |decline| impossible(geometry, &device, decline);
+    sheet(geometry, device, &one, &two).map_err(declined)
 }
 
 /// The options that set one register each.

@@ -4,7 +4,7 @@ use std::ffi::OsStr;
 
 use yohrundel::Geometry;
 
-use crate::arguments::Arguments;
+use crate::arguments::{judged, Arguments};
 use crate::failure::Failure;
 use crate::files;
 use crate::options::{OptionSpec, FILE};
@@ -40,10 +40,12 @@ pub const IMAGE: OptionSpec = OptionSpec::value(
 
 /// What the option --sizes says.
 pub fn sizes(arguments: &Arguments) -> Result<Option<Geometry>, Failure> {
-    arguments.value_form(&SIZES, "three numbers with commas between", read_sizes)
+    let words = "three numbers with commas between";
+    let sizes = arguments.value_form(&SIZES, words, read_sizes)?;
+    sizes.map(judged).transpose()
 }
 
-/// Q, B and P, which the library judges.
+/// Q, B and P.
 fn read_sizes(text: &str) -> Option<Geometry> {
     let numbers: Result<Vec<u32>, _> = text.split(',').map(str::parse).collect();
     match numbers.ok()?[..] {

@@ -1,14 +1,14 @@
 //! `yohrundel smallest`: the smallest script that shows a decline number.
 
-use yohrundel::{Decline, Geometry};
+use yohrundel::Geometry;
 
 use crate::arguments::Arguments;
+use crate::causes::reduced;
 use crate::command::{Command, First};
 use crate::failure::{Answer, Failure};
 use crate::files;
 use crate::options::OptionSpec;
 use crate::output::{Output, OUT};
-use crate::play::malformed;
 use crate::records::{line, RECORD};
 use crate::sign::Sign;
 use crate::sign_files::{sizes, BankFiles, BANK1, BANK2, SIZES};
@@ -52,10 +52,7 @@ fn run(mut arguments: Arguments) -> Answer {
     }
     let sign = sign(sizes, &banks)?;
     let script = files::bytes(path, usize::MAX)?;
-    let result = match sign.smallest(&script, number) {
-        Ok(result) => result,
-        Err(decline) => return Err(declined(decline, &script, number)?),
-    };
+    let result = reduced(&sign, &script, number)?;
     let text = report(&script, &result, number);
     match output {
         Some(output) => output.put(result, text),
@@ -69,17 +66,6 @@ fn sign(sizes: Option<Geometry>, banks: &BankFiles) -> Result<Sign, Failure> {
         Some(geometry) => banks.sign(geometry, None),
         None => Ok(Sign::bench()?),
     }
-}
-
-/// A decline with its cause.
-fn declined(decline: Decline, script: &[u8], number: u32) -> Result<Failure, Decline> {
-    let cause = match decline {
-        Decline::Script => malformed(script)?,
-        Decline::Records => format!("it has {}", script.len() / RECORD),
-        Decline::NotShown => format!("NUMBER is {number}"),
-        _ => return Err(decline),
-    };
-    Ok(Failure::declined(decline, cause))
 }
 
 /// What is left of a script, as a text that `script --make` takes.

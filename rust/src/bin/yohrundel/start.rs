@@ -3,13 +3,13 @@
 use yohrundel::Decline;
 
 use crate::arguments::Arguments;
+use crate::causes::started;
 use crate::command::{Command, First};
 use crate::failure::{Answer, Declined, Failure};
 use crate::given_sign::GivenSign;
 use crate::json::{object, Json, JSON};
 use crate::registers::REGISTER;
 use crate::sign_files::{BANK1, BANK2};
-use crate::update_start::accepted;
 use crate::wording::counted;
 
 pub const COMMAND: Command = Command {
@@ -47,17 +47,20 @@ case.",
 };
 
 fn run(mut arguments: Arguments) -> Answer {
-    let given = GivenSign::of(&arguments)?;
-    let geometry = arguments.geometry()?;
-    let path = arguments.optional();
-    arguments.end()?;
-    let sign = given.sign(geometry, path);
-    let total = sign.and_then(|sign| accepted(&sign));
+    let total = total(&mut arguments);
     if arguments.is_given(&JSON) {
         return answer(total);
     }
     let actions = counted(total?, "action");
     Ok(format!("The update is accepted. It has {actions}.\n").into())
+}
+
+fn total(arguments: &mut Arguments) -> Result<u32, Failure> {
+    let given = GivenSign::of(arguments)?;
+    let geometry = arguments.geometry()?;
+    let path = arguments.optional();
+    arguments.end()?;
+    started(&given.sign(geometry, path)?)
 }
 
 /// The object of an update that is accepted or declined; other failures have none.
@@ -85,10 +88,7 @@ fn json(total: Option<u32>, declined: Option<&Declined>) -> Json {
         ("accepted", Json::Bool(total.is_some())),
         ("total", total.into()),
         ("decline", decline.map(Decline::number).into()),
-        (
-            "sentence",
-            decline.map(|decline| decline.sentence()).into(),
-        ),
+        ("sentence", decline.map(|decline| decline.sentence()).into()),
         ("cause", cause.into()),
     ])
 }

@@ -1,10 +1,9 @@
 //! `yohrundel update`: a whole update of a sign.
 
-use yohrundel::Decline;
-
 use crate::arguments::Arguments;
+use crate::causes::started;
 use crate::command::{Command, First};
-use crate::failure::Answer;
+use crate::failure::{Answer, Failure};
 use crate::given_sign::GivenSign;
 use crate::picture::{legend, picture};
 use crate::progress::Progress;
@@ -12,7 +11,6 @@ use crate::registers::REGISTER;
 use crate::saves::{Saves, SAVE1, SAVE2};
 use crate::sign::Sign;
 use crate::sign_files::{BANK1, BANK2};
-use crate::update_start::accepted;
 use crate::wording::{runs, whole_update};
 
 pub const COMMAND: Command = Command {
@@ -48,14 +46,14 @@ fn run(mut arguments: Arguments) -> Answer {
     let path = arguments.optional();
     arguments.end()?;
     let mut sign = given.sign(geometry, path)?;
-    let total = accepted(&sign)?;
+    let total = started(&sign)?;
     let (report, legend) = (report(&mut sign, total, &mut progress)?, legend());
     let bank = saves.write(&sign)?;
     Ok(bank.unwrap_or(format!("{report}\n{legend}").into()))
 }
 
 /// An accepted update from its start to its end.
-fn report(sign: &mut Sign, total: u32, progress: &mut Progress) -> Result<String, Decline> {
+fn report(sign: &mut Sign, total: u32, progress: &mut Progress) -> Result<String, Failure> {
     let (runs, before) = (runs(sign), picture(sign)?);
     let update = whole_update(sign, total, progress)?;
     Ok(format!(
