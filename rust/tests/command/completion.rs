@@ -29,7 +29,7 @@ fn completed(line: &str) -> Vec<String> {
 fn names_of_commands() {
     let global = ["--help", "-h", "--version", "-V"];
     assert_eq!(completed("yohrundel "), [&COMMANDS[..], &global].concat());
-    assert_eq!(completed("yohrundel p"), ["play", "plan"]);
+    assert_eq!(completed("yohrundel p"), ["play", "places", "plan"]);
     assert_eq!(completed("yohrundel re"), ["reach"]);
     assert_eq!(completed("yohrundel --v"), ["--version"]);
     assert_eq!(completed("yohrundel x"), [""; 0]);

@@ -9,6 +9,7 @@ pub const COMMANDS: [&str; 13] = [
     "start",
     "update",
     "cut",
+    "places",
     "row",
     "reach",
     "plan",

@@ -14,7 +14,7 @@ use crate::run::{bytes, run};
 use crate::scripts::{named, random_words};
 
 /// The object that a line of arguments prints.
-fn printed(line: &str) -> Json {
+pub fn printed(line: &str) -> Json {
     let arguments: Vec<&str> = line.split(' ').collect();
     let text = run(&arguments).printed();
     read(&text).unwrap_or_else(|| panic!("{line}: {text}"))

@@ -24,7 +24,7 @@ pub const REGISTERS: [&str; 11] = [
     "NVMCON2",
 ];
 
-const FORMS: [&str; 4] = ["plain", "clear", "set", "invert"];
+pub const FORMS: [&str; 4] = ["plain", "clear", "set", "invert"];
 
 const KINDS: [&str; 3] = ["power-on", "brown-out", "other"];
 

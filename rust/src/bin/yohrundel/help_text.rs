@@ -2,6 +2,7 @@
 
 use crate::command::Command;
 use crate::failure::STATUSES;
+use crate::lines::{wrapped, WIDTH};
 use crate::options::{OptionSpec, HELP};
 
 /// The options that stand in place of a command.
@@ -9,9 +10,6 @@ pub const GLOBAL: [OptionSpec; 2] = [HELP, VERSION];
 
 /// The option that prints the version.
 pub const VERSION: OptionSpec = OptionSpec::flag("--version", "prints the version").or("-V");
-
-/// The columns of a text.
-const WIDTH: usize = 80;
 
 /// The widest name that has its words beside it and not below.
 const WIDEST: usize = 24;
@@ -89,22 +87,6 @@ fn rows_of(rows: Vec<(String, &str)>) -> String {
     text
 }
 
-/// Words in lines of at most so many columns.
-fn wrapped(words: &str, columns: usize) -> Vec<String> {
-    let mut lines = vec![String::new()];
-    for word in words.split(' ') {
-        match lines.last_mut() {
-            Some(line) if line.is_empty() => line.push_str(word),
-            Some(line) if line.len() + 1 + word.len() <= columns => {
-                line.push(' ');
-                line.push_str(word);
-            }
-            _ => lines.push(word.into()),
-        }
-    }
-    lines
-}
-
 /// The version, as `--version` prints it: with the commit, where the command was built in a repository.
 pub fn version() -> String {
     let version = env!("CARGO_PKG_VERSION");
@@ -117,14 +99,6 @@ pub fn version() -> String {
 #[cfg(test)]
 mod tests {
     use super::*;
-
-    #[test]
-    fn lines_are_full() {
-        assert_eq!(wrapped("", 4), [""]);
-        assert_eq!(wrapped("ab cd efg", 5), ["ab cd", "efg"]);
-        assert_eq!(wrapped("ab cd efg", 4), ["ab", "cd", "efg"]);
-        assert_eq!(wrapped("abcdef g", 4), ["abcdef", "g"]);
-    }
 
     #[test]
     fn words_beside_and_below_names() {

@@ -6,8 +6,10 @@ mod command;
 mod completion;
 mod cut;
 mod cut_arguments;
+mod cut_leaves;
 mod failure;
 mod files;
+mod flash_windows;
 mod given_sign;
 mod help;
 mod help_text;
@@ -15,12 +17,16 @@ mod hex_bank;
 mod hex_records;
 mod json;
 mod lanes;
+mod lines;
 mod nearest;
 mod options;
 mod output;
 mod page_names;
 mod parse;
 mod picture;
+mod place_report;
+mod places;
+mod places_timeline;
 mod plan;
 mod play;
 mod progress;
@@ -42,6 +48,7 @@ mod timeline;
 mod times;
 mod torn;
 mod update;
+mod update_actions;
 mod windows;
 mod wording;
 
@@ -65,6 +72,7 @@ const COMMANDS: &[Command] = &[
     start::COMMAND,
     update::COMMAND,
     cut::COMMAND,
+    places::COMMAND,
     row::COMMAND,
     reach::COMMAND,
     plan::COMMAND,

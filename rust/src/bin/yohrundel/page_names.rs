@@ -14,8 +14,27 @@ pub struct WordPlace {
 
 impl Display for WordPlace {
     fn fmt(&self, to: &mut Formatter) -> fmt::Result {
-        let WordPlace { kind, page, word } = self;
-        write!(to, "word {word} of {kind} page {page}")
+        let (word, page) = (self.word, self.page_name());
+        write!(to, "word {word} of {page}")
+    }
+}
+
+impl WordPlace {
+    /// Its quad's number in the page.
+    pub fn quad(&self) -> usize {
+        self.word / 4
+    }
+
+    /// The name of its quad.
+    pub fn quad_name(&self) -> String {
+        let (quad, page) = (self.quad(), self.page_name());
+        format!("quad {quad} of {page}")
+    }
+
+    /// The name of its page.
+    pub fn page_name(&self) -> String {
+        let WordPlace { kind, page, .. } = self;
+        format!("{kind} page {page}")
     }
 }
 
@@ -32,7 +51,5 @@ pub fn word_place(geometry: Geometry, index: usize) -> Result<WordPlace, Decline
 
 /// The name of the quad of a word.
 pub fn quad_name(geometry: Geometry, index: usize) -> Result<String, Decline> {
-    let WordPlace { kind, page, word } = word_place(geometry, index)?;
-    let quad = word / 4;
-    Ok(format!("quad {quad} of {kind} page {page}"))
+    Ok(word_place(geometry, index)?.quad_name())
 }

@@ -1,5 +1,6 @@
 //! Records of a service script as text, a line each.
 
+use std::fmt::{self, Display, Formatter};
 use std::str::SplitWhitespace;
 
 use yohrundel::form::{CLEAR, INVERT, PLAIN, SET};
@@ -17,7 +18,7 @@ const STEP: u8 = 1;
 const RESET: u8 = 2;
 
 /// A name and the number that a record has for it.
-type Named = (&'static str, u32);
+pub type Named = (&'static str, u32);
 
 const FORMS: [Named; 4] = [
     ("plain", PLAIN),
@@ -26,20 +27,51 @@ const FORMS: [Named; 4] = [
     ("invert", INVERT),
 ];
 
-/// The line of a record, without a line feed; none for what the library takes for no record.
-pub fn line(record: &[u8]) -> Option<String> {
-    let [kind, second, form, _, value @ ..] = <[u8; RECORD]>::try_from(record).ok()?;
-    let value = u32::from_le_bytes(value);
-    match kind {
-        STORE => {
-            let register = register_name(second.into())?;
-            let form = name(&FORMS, form)?;
-            Some(format!("store {register} {form} 0x{value:08X}"))
+/// What a record says. It is printed as its line, without a line feed.
+#[derive(Clone, Copy)]
+pub enum Record {
+    Store {
+        register: Named,
+        form: Named,
+        value: u32,
+    },
+    Step,
+    /// By the name of its kind.
+    Reset(&'static str),
+}
+
+impl Display for Record {
+    fn fmt(&self, to: &mut Formatter) -> fmt::Result {
+        match self {
+            Record::Store {
+                register: (register, _),
+                form: (form, _),
+                value,
+            } => write!(to, "store {register} {form} 0x{value:08X}"),
+            Record::Step => to.write_str("step"),
+            Record::Reset(kind) => write!(to, "reset {kind}"),
         }
-        STEP => Some(String::from("step")),
-        RESET => Some(format!("reset {}", kind_name(second.into())?)),
+    }
+}
+
+/// Reads a record; none for what the library takes for no record.
+pub fn read(record: &[u8]) -> Option<Record> {
+    let [kind, second, form, _, value @ ..] = <[u8; RECORD]>::try_from(record).ok()?;
+    match kind {
+        STORE => Some(Record::Store {
+            register: (register_name(second.into())?, second.into()),
+            form: named(&FORMS, form)?,
+            value: u32::from_le_bytes(value),
+        }),
+        STEP => Some(Record::Step),
+        RESET => kind_name(second.into()).map(Record::Reset),
         _ => None,
     }
+}
+
+/// The line of a record, without a line feed; none for what the library takes for no record.
+pub fn line(record: &[u8]) -> Option<String> {
+    read(record).map(|record| record.to_string())
 }
 
 /// The name of a register.
@@ -53,9 +85,9 @@ pub fn register_number(word: &str) -> Option<u32> {
     number.map(|number| number as u32)
 }
 
-fn name(all: &[Named], number: u8) -> Option<&'static str> {
-    let named = all.iter().find(|(_, of)| *of == u32::from(number));
-    named.map(|(name, _)| *name)
+fn named(all: &[Named], number: u8) -> Option<Named> {
+    let mut all = all.iter().copied();
+    all.find(|(_, of)| *of == u32::from(number))
 }
 
 /// The record of a line, none where it is blank or has a comment alone, or why it is neither.
