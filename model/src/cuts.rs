@@ -31,7 +31,8 @@ const fn sign(numbers: [u32; 3], old: usize, own: u32, other: u32) -> Sign {
     }
 }
 
-const MASKS: [[u32; 4]; 6] = [
+/// The torn masks of the cuts at each place.
+pub const MASKS: [[u32; 4]; 6] = [
     [0; 4],
     [ALL_ONES; 4],
     [0x5555_5555; 4],

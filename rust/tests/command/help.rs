@@ -2,7 +2,7 @@
 
 use crate::run::run;
 
-pub const COMMANDS: [&str; 13] = [
+pub const COMMANDS: [&str; 14] = [
     "play",
     "script",
     "smallest",
@@ -10,6 +10,7 @@ pub const COMMANDS: [&str; 13] = [
     "update",
     "cut",
     "places",
+    "sweep",
     "row",
     "reach",
     "plan",

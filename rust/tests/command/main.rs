@@ -29,6 +29,8 @@ mod scripts;
 mod sheet;
 mod smallest;
 mod start;
+mod sweep_parts;
+mod sweeps;
 mod terminal;
 mod texts;
 mod timelines;

@@ -7,7 +7,7 @@ use std::io::{self, ErrorKind};
 use yohrundel::culprit::Culprit;
 use yohrundel::Decline;
 
-/// The work is declined, by one of the paper's numbers.
+/// The work is declined, by one of the paper's numbers, or a sweep finds a wrong outcome.
 pub const DECLINED: u8 = 1;
 
 /// The arguments, or the text of a file, are not understood.
@@ -24,7 +24,8 @@ pub const STATUSES: [(u8, &str); 5] = [
     (0, "the work is done"),
     (
         DECLINED,
-        "the work is declined: by which number, why, and what was wrong is said",
+        "the work is declined: by which number, why, and what was wrong is said; or a sweep finds \
+         a cut with a wrong outcome",
     ),
     (ARGUMENTS, "the arguments or a text are not understood"),
     (
@@ -89,6 +90,14 @@ impl Failure {
         match error.kind() {
             ErrorKind::BrokenPipe => Failure::new(CLOSED, String::new()),
             _ => Failure::new(FILES, format!("the output cannot be written: {error}")),
+        }
+    }
+
+    /// A cut with a wrong outcome, and what is printed all the same.
+    pub fn wrong_outcome(output: Vec<u8>, cut: impl Display) -> Failure {
+        Failure {
+            output,
+            ..Failure::new(DECLINED, format!("a wrong outcome: {cut}"))
         }
     }
 

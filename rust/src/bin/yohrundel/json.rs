@@ -1,5 +1,6 @@
 //! A JSON value on one line: RFC 8259, without line breaks or blanks.
 
+use std::borrow::Cow;
 use std::fmt::{self, Display, Formatter};
 
 use crate::options::OptionSpec;
@@ -15,11 +16,12 @@ pub enum Json {
     Number(u64),
     Text(String),
     Array(Vec<Json>),
-    Object(Vec<(&'static str, Json)>),
+    Object(Vec<(Cow<'static, str>, Json)>),
 }
 
 /// An object of pairs in their order; no key stands twice.
 pub fn object<const N: usize>(pairs: [(&'static str, Json); N]) -> Json {
+    let pairs = pairs.map(|(key, value)| (key.into(), value));
     Json::Object(pairs.into())
 }
 
@@ -27,6 +29,36 @@ impl Json {
     /// What a command prints: the value and a line feed.
     pub fn line(&self) -> Vec<u8> {
         format!("{self}\n").into()
+    }
+
+    /// The value of a key of an object.
+    pub fn get(&self, key: &str) -> Option<&Json> {
+        let Json::Object(pairs) = self else {
+            return None;
+        };
+        let pair = pairs.iter().find(|(of, _)| of == key);
+        pair.map(|(_, value)| value)
+    }
+
+    pub fn number(&self) -> Option<u64> {
+        match self {
+            Json::Number(number) => Some(*number),
+            _ => None,
+        }
+    }
+
+    pub fn text(&self) -> Option<&str> {
+        match self {
+            Json::Text(text) => Some(text),
+            _ => None,
+        }
+    }
+
+    pub fn array(&self) -> Option<&[Json]> {
+        match self {
+            Json::Array(values) => Some(values),
+            _ => None,
+        }
     }
 }
 
@@ -90,6 +122,12 @@ impl From<bool> for Json {
 impl From<u32> for Json {
     fn from(value: u32) -> Json {
         Json::Number(value.into())
+    }
+}
+
+impl From<u64> for Json {
+    fn from(value: u64) -> Json {
+        Json::Number(value)
     }
 }
 

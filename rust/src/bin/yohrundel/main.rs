@@ -16,6 +16,7 @@ mod help_text;
 mod hex_bank;
 mod hex_records;
 mod json;
+mod json_read;
 mod lanes;
 mod lines;
 mod nearest;
@@ -30,6 +31,7 @@ mod places_timeline;
 mod plan;
 mod play;
 mod progress;
+mod random;
 mod reach;
 mod records;
 mod registers;
@@ -44,6 +46,16 @@ mod sign;
 mod sign_files;
 mod smallest;
 mod start;
+mod sweep;
+mod sweep_cuts;
+mod sweep_join;
+mod sweep_line;
+mod sweep_options;
+mod sweep_places;
+mod sweep_sign;
+mod sweep_tally;
+mod sweep_text;
+mod sweep_threads;
 mod timeline;
 mod times;
 mod torn;
@@ -73,6 +85,7 @@ const COMMANDS: &[Command] = &[
     update::COMMAND,
     cut::COMMAND,
     places::COMMAND,
+    sweep::COMMAND,
     row::COMMAND,
     reach::COMMAND,
     plan::COMMAND,

@@ -29,9 +29,16 @@ impl Progress {
         }
     }
 
-    /// So many of a total above 0 are done.
+    /// So many turns of a total above 0 are done.
     pub fn show(&mut self, done: u32, total: u32) {
-        if self.watched && done.is_multiple_of(INTERVAL) && self.begin.elapsed() > PATIENCE {
+        if done.is_multiple_of(INTERVAL) {
+            self.show_now(done, total);
+        }
+    }
+
+    /// So much of a total above 0 is done, each part of which takes longer than a turn.
+    pub fn show_now(&mut self, done: u32, total: u32) {
+        if self.watched && self.begin.elapsed() > PATIENCE {
             self.draw(bar(done, total));
         }
     }
