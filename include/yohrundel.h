@@ -132,7 +132,7 @@ enum yohrundel_decline {
     YOHRUNDEL_DECLINE_ROW = 19,
     /* A script of more than 64 records, of which the smallest that shows a number is asked. */
     YOHRUNDEL_DECLINE_RECORDS = 20,
-    /* The play of that script never gives the number. */
+    /* A script of which the smallest that shows a number is asked, and whose play never gives the number. */
     YOHRUNDEL_DECLINE_NOT_SHOWN = 21,
     /* Byte lanes whose source and target differ in length, or have no multiple of 4 bytes. */
     YOHRUNDEL_DECLINE_LANES = 22

@@ -49,7 +49,7 @@ pub enum Decline {
     Row = 19,
     /// A script of more than 64 records, of which the smallest that shows a number is asked.
     Records = 20,
-    /// The play of that script never gives the number.
+    /// A script of which the smallest that shows a number is asked, and whose play never gives the number.
     NotShown = 21,
     /// Byte lanes whose source and target differ in length, or have no multiple of 4 bytes.
     Lanes = 22,

@@ -35,7 +35,7 @@ fn names_of_commands() {
     assert_eq!(completed("yohrundel x"), [""; 0]);
     assert_eq!(
         completed("yohrundel help s"),
-        ["script", "smallest", "start", "sheet"]
+        ["script", "smallest", "start", "sweep", "sheet"]
     );
 }
 

@@ -2,7 +2,7 @@
 
 use crate::run::run;
 
-pub const COMMANDS: [&str; 14] = [
+pub const COMMANDS: [&str; 15] = [
     "play",
     "script",
     "smallest",
@@ -16,6 +16,7 @@ pub const COMMANDS: [&str; 14] = [
     "plan",
     "lanes",
     "sheet",
+    "why",
     "help",
     "completion",
 ];

@@ -36,4 +36,5 @@ mod texts;
 mod timelines;
 mod tries;
 mod updates;
+mod why;
 mod windows;

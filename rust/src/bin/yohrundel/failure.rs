@@ -24,8 +24,8 @@ pub const STATUSES: [(u8, &str); 5] = [
     (0, "the work is done"),
     (
         DECLINED,
-        "the work is declined: by which number, why, and what was wrong is said; or a sweep finds \
-         a cut with a wrong outcome",
+        "the work is declined, with what was wrong, by a number that yohrundel why explains; or a \
+         sweep finds a cut with a wrong outcome",
     ),
     (ARGUMENTS, "the arguments or a text are not understood"),
     (

@@ -61,6 +61,8 @@ mod times;
 mod torn;
 mod update;
 mod update_actions;
+mod why;
+mod why_texts;
 mod windows;
 mod wording;
 
@@ -91,6 +93,7 @@ const COMMANDS: &[Command] = &[
     plan::COMMAND,
     lanes::COMMAND,
     sheet::COMMAND,
+    why::COMMAND,
     help::COMMAND,
     completion::COMMAND,
 ];
