@@ -2,7 +2,7 @@
 
 use crate::run::run;
 
-pub const COMMANDS: [&str; 15] = [
+pub const COMMANDS: [&str; 16] = [
     "play",
     "script",
     "smallest",

@@ -20,9 +20,9 @@ const BEFORE: u32 = 0x8000_8000;
 /// A sign whose other bank has no blank quad, so that every step of its update changes one.
 fn written_sign(numbers: [u32; 3]) -> Sign {
     let fresh = Sign::fresh(numbers, None);
-    let mut other = vec![0; fresh.old.len()];
+    let mut other = vec![0; fresh.old().len()];
     other[fresh.geometry.sequence_index()] = BEFORE;
-    Sign::started(numbers, [fresh.old, other], None)
+    Sign::started(numbers, [fresh.old().to_vec(), other], None)
 }
 
 /// What stands at a place in the outside model.
@@ -76,7 +76,7 @@ fn cut(sign: &Sign) -> (&'static str, &'static str) {
         words.insert(sign.banks[1][sign.geometry.sequence_index()]);
     }
     let has = |word: u32| words.contains(&word);
-    let word = match (has(BEFORE), has(!0), has(0xFFFD_0002)) {
+    let word = match (has(BEFORE), has(!0), has(0xFFFC_0003)) {
         (true, false, false) => "as it was",
         (true, true, false) => "not valid or as it was",
         (false, true, false) => "erased",
@@ -350,6 +350,6 @@ fn arguments_that_are_not_understood() {
     let reason = "places: declined by 13: the place exceeds the total: PLACE is 253, the total 252";
     assert_eq!(run(&["places", "1", "1", "1", "253"]).reason(1), reason);
     let reason = "places: declined by 1: the quads per row, boot pages or program pages are out \
-                  of range";
+                  of range: B is 6, not 1 to 5";
     assert_eq!(run(&["places", "1", "6", "1"]).reason(1), reason);
 }

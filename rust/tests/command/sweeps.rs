@@ -28,12 +28,12 @@ fn counts_at(sign: &Sign, sweep: &Sweep) -> [u64; 2] {
             let mut sign = sign.clone();
             match sign.restart(*kind, *mask) {
                 Bank::One => {
-                    assert_eq!(sign.banks[0], sign.old);
+                    assert_eq!(sign.banks[0], sign.old());
                     sign.start().expect("it is accepted again");
                     counts[0] += 1;
                 }
                 Bank::Two => {
-                    assert_eq!(sign.banks, [sign.old.clone(), sign.new.clone()]);
+                    assert_eq!(sign.banks, sign.updated());
                     counts[1] += 1;
                 }
             }
@@ -306,7 +306,7 @@ fn arguments_that_are_not_understood() {
     wrong("sweep 1 1", "P is missing");
     wrong("sweep 1 1 1 1", "\"1\" is one argument too many");
     let reason = "sweep: declined by 1: the quads per row, boot pages or program pages are out of \
-                  range";
+                  range: P is 129, not 1 to 128";
     assert_eq!(line("sweep 1 1 129").reason(1), reason);
 }
 

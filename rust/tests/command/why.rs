@@ -45,7 +45,7 @@ fn each_decline() {
         let text = run(&["why", &number.to_string()]).printed();
         assert!(text.lines().all(|line| line.len() <= 80), "{text}");
         let when = words(&comments[&number]);
-        let front = format!("{number}: {decline}. {when} What to do: ");
+        let front = format!("{number}: {}. {when} What to do: ", decline.sentence());
         let text = words(&text);
         let remedy = text
             .strip_prefix(&front)
@@ -86,8 +86,9 @@ fn ranges() {
 /// A line for each number, with the sentence of the library.
 #[test]
 fn all_declines() {
-    let line = |decline: Decline| format!("{:>2}  {decline}\n", decline.number());
-    assert_eq!(run(&["why"]).printed(), Decline::ALL.map(line).concat());
+    let line = |decline: Decline| format!("{:>2}  {}\n", decline.number(), decline.sentence());
+    let lines: String = Decline::ALL.iter().copied().map(line).collect();
+    assert_eq!(run(&["why"]).printed(), lines);
     assert_eq!(Decline::ALL.len(), 22);
 }
 

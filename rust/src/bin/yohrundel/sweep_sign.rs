@@ -4,7 +4,6 @@ use std::fmt::{self, Display, Formatter};
 
 use yohrundel::{reset, start_up, turn_lent, update_start, Bank, Decline, Device, Geometry};
 
-use crate::failure::declined;
 use crate::resets::{Kind, Mask};
 use crate::sign::Sign;
 
@@ -59,7 +58,7 @@ impl Start {
         Ok(Start {
             geometry,
             device,
-            banks: sign.banks,
+            banks: sign.banks.clone(),
             image,
             old,
             new: sign.new,
@@ -140,13 +139,13 @@ impl Display for Wrong {
         match self {
             Wrong::NoBankRuns => to.write_str("no bank runs"),
             Wrong::OldChanged => to.write_str("the old bank runs, but not with every word"),
-            Wrong::NotAccepted(decline) => write!(to, "{again} {}", declined(*decline)),
+            Wrong::NotAccepted(decline) => write!(to, "{again} {decline}"),
             Wrong::NotNew => to.write_str("the other bank runs, but is not exactly the new one"),
             Wrong::OldNotKept => {
                 to.write_str("exactly the new bank runs, but the old one lost words")
             }
             Wrong::Declined(decline) => {
-                write!(to, "the reset or the start-up is {}", declined(*decline))
+                write!(to, "the reset or the start-up is {decline}")
             }
         }
     }

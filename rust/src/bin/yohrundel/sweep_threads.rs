@@ -93,7 +93,7 @@ mod tests {
     #[test]
     fn right_outcomes() {
         let places: Vec<u32> = (0..=252).collect();
-        let [one, two] = fresh().banks;
+        let [one, two] = fresh().banks.clone();
         let exchanged = Sign::started(SMALLEST, [two, one], image()).expect("a sign");
         for sign in [fresh(), exchanged] {
             let tally = Tally {

@@ -31,7 +31,7 @@ fn run(mut arguments: Arguments) -> Answer {
             let decline = formed(number, "NUMBER", words, read_decline)?;
             decline.map_or_else(|| String::from(ACCEPTED), explanation)
         }
-        None => Decline::ALL.map(line).concat(),
+        None => Decline::ALL.iter().copied().map(line).collect(),
     };
     Ok(text.into())
 }
@@ -42,7 +42,7 @@ const ACCEPTED: &str = "0 is no decline: the work is done.\n";
 /// A decline by its number; none for 0, by which none is given.
 fn read_decline(text: &str) -> Option<Option<Decline>> {
     let number = decimal(text)?;
-    let mut all = Decline::ALL.into_iter();
+    let mut all = Decline::ALL.iter().copied();
     match number {
         0 => Some(None),
         _ => all.find(|decline| decline.number() == number).map(Some),
@@ -50,13 +50,13 @@ fn read_decline(text: &str) -> Option<Option<Decline>> {
 }
 
 fn line(decline: Decline) -> String {
-    format!("{:2}  {decline}\n", decline.number())
+    format!("{:2}  {}\n", decline.number(), decline.sentence())
 }
 
 /// What the number says, when it is given and what to do.
 fn explanation(decline: Decline) -> String {
     let &Explanation { when, remedy } = explained(decline);
-    let head = format!("{}: {decline}.", decline.number());
+    let head = format!("{}: {}.", decline.number(), decline.sentence());
     let remedy = format!("What to do: {remedy}");
     [&head, when, &remedy].map(paragraph).concat()
 }
