@@ -74,8 +74,9 @@ fn declined_by_10() {
     let torn = |bank| {
         format!("a torn erase could make bank {bank}'s sequence word valid: no bit position is 1 in both halves of 0x00000000")
     };
-    let other =
-        |bank| format!("a reset would choose bank {bank}, as its sequence number is the higher one: ");
+    let other = |bank| {
+        format!("a reset would choose bank {bank}, as its sequence number is the higher one: ")
+    };
     for (one, two, options, cause) in [
         (!0, !0, "", format!("{invalid}FFFFFFFF")),
         (0, !0, "", format!("{invalid}00000000")),
