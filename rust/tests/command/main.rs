@@ -10,6 +10,7 @@ mod hex_text;
 mod json;
 mod lanes;
 mod objects;
+mod operations;
 mod options;
 mod outside;
 mod outside_blocks;

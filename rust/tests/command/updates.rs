@@ -4,6 +4,7 @@ use model::geometry::Bank;
 use model::random::Random;
 use model::update::total;
 
+use crate::operations::operation;
 use crate::outside::{Sign, LEGEND};
 use crate::run::{bytes, file, finish, run, spawn};
 
@@ -115,7 +116,7 @@ pub fn failing(
     mask: [u32; 4],
     start_ups: &[u32],
 ) -> (String, Bank) {
-    let operation = if sign.device.running() { "an" } else { "no" };
+    let operation = operation(sign);
     let at_cut = sign.picture();
     let mut resets = reset(sign, kind, mask);
     for stores in start_ups {
@@ -125,7 +126,7 @@ pub fn failing(
     let runs = sign.start_up();
     let (number, why, after) = (runs.number(), sign.why, sign.picture());
     let text = format!(
-        "{front} the supply fails while {operation} operation runs.\n\n{at_cut}\n{resets}\
+        "{front} the supply fails while {operation}.\n\n{at_cut}\n{resets}\
          After the reset and start-up bank {number} runs:\n{why}.\n\n{after}\n"
     );
     (text, runs)

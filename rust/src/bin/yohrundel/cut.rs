@@ -8,6 +8,7 @@ use crate::command::{Command, First};
 use crate::cut_arguments::{take_cuts, Cut, CUT_START_UP, READ, THEN};
 use crate::failure::{Answer, Failure};
 use crate::given_sign::GivenSign;
+use crate::operation::running_operation;
 use crate::options::OptionSpec;
 use crate::picture::{legend, picture};
 use crate::progress::Progress;
@@ -105,14 +106,12 @@ fn until_cut(sign: &mut Sign, cut: &Cut, progress: &mut Progress) -> Result<Stri
         Some(address) => format!("At place {place} {}\nThen", reading(sign, address)?),
         None => format!("At place {place}"),
     };
-    let operation = if sign.device.operation_runs() {
-        "an operation"
-    } else {
-        "no operation"
-    };
-    let picture = picture(sign)?;
+    let (operation, picture) = (
+        running_operation(sign.geometry, sign.device)?,
+        picture(sign)?,
+    );
     Ok(format!(
-        "{before} the supply fails while {operation} runs.\n\n{picture}"
+        "{before} the supply fails while {operation}.\n\n{picture}"
     ))
 }
 

@@ -20,6 +20,7 @@ mod json_read;
 mod lanes;
 mod lines;
 mod nearest;
+mod operation;
 mod options;
 mod output;
 mod page_names;

@@ -1,4 +1,4 @@
-//! Words and quads of a bank by their numbers in their page, and the page by its number among those of its kind.
+//! Words and quads of a bank by their numbers in their page, and pages by their numbers among those of their kind.
 
 use std::fmt::{self, Display, Formatter};
 
@@ -47,6 +47,12 @@ pub fn word_place(geometry: Geometry, index: usize) -> Result<WordPlace, Decline
         Some(page) => ("program", page),
     };
     Ok(WordPlace { kind, page, word })
+}
+
+/// The name of the page of a word.
+pub fn page_name(geometry: Geometry, index: usize) -> Result<String, Decline> {
+    let WordPlace { kind, page, .. } = word_place(geometry, index)?;
+    Ok(format!("{kind} page {page}"))
 }
 
 /// The name of the quad of a word.
