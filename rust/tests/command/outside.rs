@@ -25,6 +25,10 @@ pub struct Sign {
     /// What the other bank must come to.
     pub new: Vec<u32>,
     pub image: Vec<u32>,
+    /// Whether the new bank is known, which it is not on the play program's bench.
+    new_is_known: bool,
+    /// Whether an update erased each page of the new bank.
+    erased: Vec<bool>,
     /// Why the last reset put its bank lower.
     pub why: &'static str,
 }
@@ -38,6 +42,15 @@ fn with_sequence(geometry: &Geometry, mut bank: Vec<u32>, low: u16) -> Vec<u32> 
     let first = geometry.sequence_index();
     bank[first..first + 4].copy_from_slice(&new_quad(low - 1));
     bank
+}
+
+/// Notes the page of an erase that ended between two moments.
+fn note_erase(geometry: &Geometry, before: Device, after: Device, erased: &mut [bool]) {
+    if before.running() && !after.running() && before.nvmop() == 4 {
+        let location = geometry.locate(before.launched.address).expect("a page");
+        let page = geometry.word_index(location) / geometry.page_words() as usize;
+        erased[page] = true;
+    }
 }
 
 impl Sign {
@@ -65,6 +78,8 @@ impl Sign {
             banks,
             new: image.clone(),
             image,
+            new_is_known: true,
+            erased: vec![false; geometry.pages() as usize],
             why: "",
         };
         sign.runs_before = sign.restart(0, [0; 4]);
@@ -103,6 +118,8 @@ impl Sign {
             banks,
             new: blank.clone(),
             image: blank,
+            new_is_known: false,
+            erased: vec![false; 2],
             why: "",
         }
     }
@@ -191,6 +208,7 @@ impl Sign {
             let (numbers, device) = (self.numbers, self.device);
             let turned = turn(numbers, device, &mut banks, &self.image, &[], place);
             self.device = turned.expect("a turn").device;
+            note_erase(&self.geometry, device, self.device, &mut self.erased);
         }
     }
 
@@ -200,12 +218,13 @@ impl Sign {
             4 => self.geometry.page_quads(),
             _ => 1,
         };
-        let left = length - self.device.step_number;
+        let (left, before) = (length - self.device.step_number, self.device);
         let [one, two] = &mut self.banks;
         let mut banks = Banks { one, two };
         let read = flash_read(self.numbers, self.device, &mut banks, &[], address);
         let read = read.expect("a flash read");
         self.device = read.device;
+        note_erase(&self.geometry, before, self.device, &mut self.erased);
         (read.word, read.event.then_some(left))
     }
 
@@ -247,11 +266,19 @@ impl Sign {
         };
         let words = self.geometry.page_words();
         let range = (number * words) as usize..((number + 1) * words) as usize;
+        let is_blank = |words: &[u32]| words.iter().all(|word| *word == 0xFFFF_FFFF);
         let index = bank.number() as usize - 1;
-        match &self.banks[index][range.clone()] {
-            blank if blank.iter().all(|word| *word == 0xFFFF_FFFF) => '.',
-            whole if whole == &self.before[index][range.clone()] => 'o',
-            whole if whole == &self.new[range] => 'n',
+        let (is, old) = (&self.banks[index][range.clone()], &self.before[index][range.clone()]);
+        let is_new = match self.new_is_known {
+            true => is == &self.new[range],
+            false => !is.chunks(4).any(is_blank),
+        };
+        let is_erased = bank != self.runs_before && self.erased[number as usize];
+        match is {
+            _ if is_new && is_erased => 'n',
+            _ if is_blank(is) => '.',
+            _ if is == old => 'o',
+            _ if is_new => 'n',
             _ => '~',
         }
     }

@@ -138,7 +138,8 @@ fn erasing_is_seen() {
     let printed = line("cut 1 2 6 38 other FF").printed();
     let expected = "\
 The update has 972 actions.
-At place 38 the supply fails while an operation runs.
+At place 38 the supply fails while an operation runs:
+erase of boot page 0 of bank 2, step 4 of 8.
 
         boot  program
 bank 1* oo    oooooo

@@ -7,7 +7,7 @@ use model::script::{play, records};
 use crate::outside::{Sign, LEGEND};
 use crate::play::{sequence_script, SCRIPT};
 use crate::rows::expected;
-use crate::run::{file, Ran, PROGRAM};
+use crate::run::{bytes, file, Ran, PROGRAM};
 
 /// A run on a terminal, which the program `script` makes. None where there is no such program.
 fn on_a_terminal(command: &str) -> Option<Ran> {
@@ -91,6 +91,47 @@ fn banks_after_a_play() {
         let (lines, picture) = (play(&script), sign.picture());
         assert_eq!(printed, format!("{lines}\n{picture}\n{LEGEND}"));
     }
+}
+
+/// The rows of the banks after a play, without the marks of protected pages.
+fn banks_of_a_play(script: &[u8], options: &str) -> Vec<String> {
+    let path = file("terminal-banks", script);
+    let ran = on_a_terminal(&format!("{PROGRAM} play {} {options}", path.display()));
+    let printed = ran.expect("a terminal").printed();
+    let rows = printed.lines().filter(|line| line.starts_with("bank "));
+    let rows = rows.filter(|line| !line.ends_with("runs:"));
+    rows.map(|row| row.trim_end().into()).collect()
+}
+
+/// A page is new when no quad of it is blank, where no image is given, and when it is as in the image, where one is.
+#[test]
+fn new_pages_after_a_play() {
+    if !there_is_a_terminal() {
+        return;
+    }
+    // The last program page is all ones. The update has 12 + 8 x 3 + 112 x 3 actions.
+    let mut image: Vec<u32> = (0..96).collect();
+    image[64..].fill(!0);
+    let script = Sign::fresh([1, 1, 2], Some(image.clone())).script();
+    let script = script.expect("it is accepted");
+    let image = file("terminal-image", &bytes(&image));
+    let given = format!("--sizes 1,1,2 --image {}", image.display());
+    let whole = "bank 1* o     oo";
+    for (records, options, second) in [
+        (372, "--sizes 1,1,2", "bank 2  n     n."),
+        (372, &given, "bank 2  n     nn"),
+        // Quads of the program pages are programmed by the records from 60 on, 13 for each.
+        (60 + 13 * 7, "--sizes 1,1,2", "bank 2  .     ~."),
+        (60 + 13 * 8, "--sizes 1,1,2", "bank 2  .     n."),
+        (60 + 13 * 7, &given, "bank 2  .     ~."),
+        (60 + 13 * 8, &given, "bank 2  .     n."),
+    ] {
+        let rows = banks_of_a_play(&script[..8 * records], options);
+        assert_eq!(rows, [whole, second], "{records} {options}");
+    }
+    let script = Sign::fresh([1, 1, 1], None).script();
+    let rows = banks_of_a_play(&script.expect("it is accepted"), "");
+    assert_eq!(rows, ["bank 1* o     .", "bank 2  n     n"]);
 }
 
 /// The lines of a row are as wide as COLUMNS says, where that can be.

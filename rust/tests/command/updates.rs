@@ -210,7 +210,7 @@ fn update_with_an_image() {
     image[64..128].fill(!0);
     image[128..192].copy_from_slice(&Sign::fresh([2, 1, 3], None).old()[128..192]);
     let expected = update(&mut Sign::fresh([2, 1, 3], Some(image.clone())));
-    assert!(expected.contains("bank 2* n     .nn\n"), "{expected}");
+    assert!(expected.contains("bank 2* n     nnn\n"), "{expected}");
     let path = file("image", &bytes(&image));
     let path = path.to_str().expect("a name in UTF-8");
     assert_eq!(run(&["update", "2", "1", "3", path]).printed(), expected);

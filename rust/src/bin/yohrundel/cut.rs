@@ -103,7 +103,7 @@ fn until_cut(sign: &mut Sign, cut: &Cut, progress: &mut Progress) -> Result<Stri
     sign.turn_until(cut.place, progress)?;
     let place = cut.place;
     let before = match cut.read {
-        Some(address) => format!("At place {place} {}\nThen", reading(sign, address)?),
+        Some(address) => format!("At place {place} {}\nThen", reading(sign, place, address)?),
         None => format!("At place {place}"),
     };
     let (operation, picture) = (
@@ -115,9 +115,10 @@ fn until_cut(sign: &mut Sign, cut: &Cut, progress: &mut Progress) -> Result<Stri
     ))
 }
 
-/// A read of the CPU, as the rest of a sentence and one more.
-fn reading(sign: &mut Sign, address: u32) -> Result<String, Failure> {
+/// A read of the CPU at a place, as the rest of a sentence and one more. The steps that it waited for are actions of the update.
+fn reading(sign: &mut Sign, place: u32, address: u32) -> Result<String, Failure> {
     let (word, steps) = read(sign, address)?;
+    sign.note_place(place + steps.unwrap_or(0));
     let waits = match steps {
         Some(1) => String::from("waits for 1 step, the operation's last,"),
         Some(steps) => format!("waits for {steps} steps, to the operation's end,"),

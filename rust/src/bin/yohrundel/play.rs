@@ -12,10 +12,11 @@ use crate::command::{Command, First};
 use crate::failure::{Answer, Failure};
 use crate::files;
 use crate::options::OptionSpec;
-use crate::picture::{legend, picture};
+use crate::picture::{legend, picture_of};
 use crate::saves::{Saves, SAVE1, SAVE2};
 use crate::sign::Sign;
 use crate::sign_files::{sizes, BankFiles, BANK1, BANK2, IMAGE, SIZES};
+use crate::sign_pages::SignPages;
 use crate::wording::runs;
 
 pub const COMMAND: Command = Command {
@@ -106,7 +107,9 @@ fn run(mut arguments: Arguments) -> Answer {
         return Ok(bank);
     }
     if io::stdout().is_terminal() {
-        let (picture, legend) = (picture(&sign)?, legend());
+        let new = options.image.map(|_| &sign.new[..]);
+        let pages = SignPages::after_play(&sign, new)?;
+        let (picture, legend) = (picture_of(&pages), legend());
         output.extend(format!("\n{picture}\n{legend}").bytes());
     }
     Ok(output)

@@ -24,6 +24,8 @@ pub struct Sign {
     pub new: Vec<u32>,
     /// The image of the update.
     pub image: Vec<u32>,
+    /// The furthest place that an update came to, in this try or one before.
+    pub reached: u32,
 }
 
 /// What is asked of the sign as it is now.
@@ -76,6 +78,7 @@ impl Sign {
             now,
             new: image.clone(),
             image,
+            reached: 0,
         }
     }
 
@@ -106,6 +109,11 @@ impl Sign {
     /// A bank as it was before the update or the play.
     pub fn old_bank(&self, bank: Bank) -> &[u32] {
         self.old.bank(bank)
+    }
+
+    /// An update, or a read that did its steps, came to a place.
+    pub fn note_place(&mut self, place: u32) {
+        self.reached = self.reached.max(place);
     }
 
     /// A reset and a start-up.
@@ -177,6 +185,7 @@ impl Sign {
         let mut place = 0;
         while place < last {
             place = self.now.turn(&self.image, &[], place)?.place;
+            self.note_place(place);
             progress.show(place, last);
         }
         Ok(())
@@ -191,6 +200,7 @@ impl Sign {
                 return Ok(turns);
             }
             (place, turns) = (outcome.place, turns + 1);
+            self.note_place(place);
             progress.show(place, total);
         }
     }
