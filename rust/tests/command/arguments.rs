@@ -341,5 +341,12 @@ fn files_that_cannot_be_written() {
             let ran = run(&["play", "/dev/null", option, path]);
             assert_eq!(ran.reason(3), format!("play: {reason}"));
         }
+        for line in ["update 1 1 1", "cut 1 1 1 0 0"] {
+            let (command, _) = line.split_once(' ').expect("a command");
+            let ran = run(&format!("{line} --svg {path}")
+                .split(' ')
+                .collect::<Vec<_>>());
+            assert_eq!(ran.reason(3), format!("{command}: {reason}"));
+        }
     }
 }

@@ -3,6 +3,7 @@
 mod arguments;
 mod causes;
 mod completion;
+mod drawings;
 mod help;
 mod hex;
 mod hex_refusals;
@@ -39,3 +40,4 @@ mod tries;
 mod updates;
 mod why;
 mod windows;
+mod xml;

@@ -41,9 +41,9 @@ fn said(sizes: &str, place: u32, options: &str) -> String {
     operation.into()
 }
 
-fn check(sizes: &str, places: &[(u32, &str)]) {
+fn check(sizes: &str, places: &[(u32, String)]) {
     for (place, operation) in places {
-        let expected = match *operation {
+        let expected = match operation.as_str() {
             "" => String::from("no operation runs"),
             operation => format!("an operation runs:\n{operation}"),
         };
@@ -51,82 +51,61 @@ fn check(sizes: &str, places: &[(u32, &str)]) {
     }
 }
 
+const NONE: String = String::new();
+
+fn erase(page: &str, step: u32, steps: u32) -> String {
+    format!("erase of {page} of bank 2, step {step} of {steps}")
+}
+
+fn programming(quad: u32, page: &str) -> String {
+    format!("programming of quad {quad} of {page} of bank 2, step 1 of 1")
+}
+
 /// The first 12 actions have none. Each of the 8 pages has 7 stores, the last of which launches, 8 steps and a store; the last boot page is
 /// the first. From place 140 on each quad has 11 stores, the last of which launches, a step and a store.
 #[test]
 fn operations_of_a_small_sign() {
-    check(
-        "1 2 6",
-        &[
-            (0, ""),
-            (7, ""),
-            (18, ""),
-            (19, "erase of boot page 1 of bank 2, step 1 of 8"),
-            (20, "erase of boot page 1 of bank 2, step 2 of 8"),
-            (26, "erase of boot page 1 of bank 2, step 8 of 8"),
-            (27, ""),
-            (34, ""),
-            (35, "erase of boot page 0 of bank 2, step 1 of 8"),
-            (51, "erase of program page 0 of bank 2, step 1 of 8"),
-            (138, "erase of program page 5 of bank 2, step 8 of 8"),
-            (139, ""),
-            (150, ""),
-            (
-                151,
-                "programming of quad 0 of program page 0 of bank 2, step 1 of 1",
-            ),
-            (152, ""),
-            (
-                242,
-                "programming of quad 7 of program page 0 of bank 2, step 1 of 1",
-            ),
-            (
-                255,
-                "programming of quad 0 of program page 1 of bank 2, step 1 of 1",
-            ),
-            (
-                762,
-                "programming of quad 7 of program page 5 of bank 2, step 1 of 1",
-            ),
-            (
-                775,
-                "programming of quad 0 of boot page 0 of bank 2, step 1 of 1",
-            ),
-            (
-                970,
-                "programming of quad 7 of boot page 1 of bank 2, step 1 of 1",
-            ),
-            (971, ""),
-            (972, ""),
-        ],
-    );
+    let places = [
+        (0, NONE),
+        (7, NONE),
+        (18, NONE),
+        (19, erase("boot page 1", 1, 8)),
+        (20, erase("boot page 1", 2, 8)),
+        (26, erase("boot page 1", 8, 8)),
+        (27, NONE),
+        (34, NONE),
+        (35, erase("boot page 0", 1, 8)),
+        (51, erase("program page 0", 1, 8)),
+        (138, erase("program page 5", 8, 8)),
+        (139, NONE),
+        (150, NONE),
+        (151, programming(0, "program page 0")),
+        (152, NONE),
+        (242, programming(7, "program page 0")),
+        (255, programming(0, "program page 1")),
+        (762, programming(7, "program page 5")),
+        (775, programming(0, "boot page 0")),
+        (970, programming(7, "boot page 1")),
+        (971, NONE),
+        (972, NONE),
+    ];
+    check("1 2 6", &places);
 }
 
 /// With Q = 2 a page has 16 quads, and the first quad is programmed from place 60 on.
 #[test]
 fn operations_with_longer_pages() {
-    check(
-        "2 1 1",
-        &[
-            (19, "erase of boot page 0 of bank 2, step 1 of 16"),
-            (34, "erase of boot page 0 of bank 2, step 16 of 16"),
-            (35, ""),
-            (50, "erase of program page 0 of bank 2, step 8 of 16"),
-            (
-                266,
-                "programming of quad 15 of program page 0 of bank 2, step 1 of 1",
-            ),
-            (
-                279,
-                "programming of quad 0 of boot page 0 of bank 2, step 1 of 1",
-            ),
-            (
-                474,
-                "programming of quad 15 of boot page 0 of bank 2, step 1 of 1",
-            ),
-            (475, ""),
-        ],
-    );
+    let places = [
+        (19, erase("boot page 0", 1, 16)),
+        (34, erase("boot page 0", 16, 16)),
+        (35, NONE),
+        (50, erase("program page 0", 8, 16)),
+        (266, programming(15, "program page 0")),
+        (279, programming(0, "boot page 0")),
+        (474, programming(15, "boot page 0")),
+        (475, NONE),
+    ];
+    check("2 1 1", &places);
 }
 
 /// A read of the bank that is erased does the steps that are left; one of the other bank does none.

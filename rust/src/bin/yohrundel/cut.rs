@@ -3,9 +3,11 @@
 use yohrundel::Decline;
 
 use crate::arguments::Arguments;
+use crate::bank_drawing::BankDrawing;
 use crate::causes::{read, started};
 use crate::command::{Command, First};
 use crate::cut_arguments::{take_cuts, Cut, CUT_START_UP, READ, THEN};
+use crate::drawing::SVG;
 use crate::failure::{Answer, Failure};
 use crate::given_sign::GivenSign;
 use crate::operation::running_operation;
@@ -35,9 +37,10 @@ Boot pages are at 1FC00000, of the bank that runs, and at 1FC20000, of the
 other; program pages are at 1D000000, of the bank that runs and then of the
 other. A read of the bank that an operation works on waits: it does the steps
 that are left, and the update's turns for them would be declined by 6.
-It prints what the read gave, and for how many steps it waited; a picture of
-both banks at the cut, which bank runs after the reset and start-up and why,
-whether the same update is accepted again, and how that ends.",
+It prints what the read gave, and for how many steps it waited; which operation
+runs at the cut, and a picture of both banks; which bank runs after the reset
+and start-up and why; whether the same update is accepted again, and how that
+ends.",
     options: &[
         IMAGE,
         BANK1,
@@ -48,6 +51,7 @@ whether the same update is accepted again, and how that ends.",
         THEN,
         SAVE_CUT1,
         SAVE2,
+        DRAWING,
     ],
     keys: &[],
     run,
@@ -58,10 +62,15 @@ const SAVE_CUT1: OptionSpec = SAVE1.explained(
      standard output, which then gets the bank's words alone",
 );
 
+const DRAWING: OptionSpec = SVG.explained(
+    "draws both banks, page by page, before the update, at each cut and after each start-up, as \
+     SVG into FILE",
+);
+
 fn run(arguments: Arguments) -> Answer {
     let mut progress = Progress::new();
     let (given, saves) = (GivenSign::of(&arguments)?, Saves::of(&arguments)?);
-    let image = arguments.value(&IMAGE);
+    let (image, svg) = (arguments.value(&IMAGE), arguments.value(&DRAWING));
     let (geometry, cuts) = take_cuts(arguments)?;
     let mut sign = given.sign(geometry, image)?;
     let total = started(&sign)?;
@@ -69,11 +78,16 @@ fn run(arguments: Arguments) -> Answer {
         let cause = format!("PLACE is {place}, the total {total}");
         return Err(Failure::declined(Decline::Place, cause));
     }
-    let (tries, left_out) = tries(&mut sign, &cuts, &mut progress)?;
+    let mut drawing = BankDrawing::new("An update that is cut", geometry);
+    let before = format!("Before the update {}.", runs(&sign));
+    drawing.note("Before", &before, &sign)?;
+    let (tries, left_out) = tries(&mut sign, &cuts, &mut drawing, &mut progress)?;
     if let Some(bank) = saves.write(&sign)? {
+        drawing.write(svg)?;
         return Ok(bank);
     }
     let (again, legend) = (again(&mut sign, left_out, &mut progress)?, legend());
+    drawing.write(svg)?;
     let actions = counted(total, "action");
     Ok(format!("The update has {actions}.\n{tries}{again}\n{legend}").into())
 }
@@ -82,6 +96,7 @@ fn run(arguments: Arguments) -> Answer {
 fn tries(
     sign: &mut Sign,
     cuts: &[Cut],
+    drawing: &mut BankDrawing,
     progress: &mut Progress,
 ) -> Result<(String, bool), Failure> {
     let mut text = String::new();
@@ -92,10 +107,27 @@ fn tries(
             }
             text += "The same update is accepted again.\n";
         }
-        let (before, after) = (until_cut(sign, cut, progress)?, after_cut(sign, cut)?);
-        text += &format!("{before}\n{after}\n");
+        let (title, before) = (
+            format!("Cut at place {}", cut.place),
+            until_cut(sign, cut, progress)?,
+        );
+        text += &pictured(&title, before, sign, drawing)?;
+        let after = after_cut(sign, cut)?;
+        text += &pictured("After the reset and start-up", after, sign, drawing)?;
     }
     Ok((text, false))
+}
+
+/// What happened, and both banks then, which are drawn too.
+fn pictured(
+    title: &str,
+    happened: String,
+    sign: &Sign,
+    drawing: &mut BankDrawing,
+) -> Result<String, Decline> {
+    drawing.note(title, &happened, sign)?;
+    let picture = picture(sign)?;
+    Ok(format!("{happened}\n{picture}\n"))
 }
 
 /// The turns before the cut, and the read.
@@ -106,13 +138,8 @@ fn until_cut(sign: &mut Sign, cut: &Cut, progress: &mut Progress) -> Result<Stri
         Some(address) => format!("At place {place} {}\nThen", reading(sign, place, address)?),
         None => format!("At place {place}"),
     };
-    let (operation, picture) = (
-        running_operation(sign.geometry, sign.device)?,
-        picture(sign)?,
-    );
-    Ok(format!(
-        "{before} the supply fails while {operation}.\n\n{picture}"
-    ))
+    let operation = running_operation(sign.geometry, sign.device)?;
+    Ok(format!("{before} the supply fails while {operation}.\n"))
 }
 
 /// A read of the CPU at a place, as the rest of a sentence and one more. The steps that it waited for are actions of the update.
@@ -137,10 +164,8 @@ fn after_cut(sign: &mut Sign, cut: &Cut) -> Result<String, Decline> {
         text += &reset(sign, cut)?;
     }
     sign.start_up()?;
-    let (runs, picture) = (runs(sign), picture(sign)?);
-    Ok(format!(
-        "{text}After the reset and start-up {runs}.\n\n{picture}"
-    ))
+    let runs = runs(sign);
+    Ok(format!("{text}After the reset and start-up {runs}.\n"))
 }
 
 fn reset(sign: &mut Sign, cut: &Cut) -> Result<String, Decline> {
@@ -184,5 +209,27 @@ fn again(sign: &mut Sign, left_out: bool, progress: &mut Progress) -> Result<Str
             let ending = ending(sign)?;
             Ok(format!("The same update is {reason}.\n{ending}"))
         }
+    }
+}
+
+#[cfg(test)]
+mod tests {
+    use super::*;
+    use crate::sign::made_up_image;
+    use yohrundel::Geometry;
+
+    /// The place that counts after a read at place 21, the third step of the first erase, which ends at place 27.
+    fn reached(address: u32) -> Result<u32, Failure> {
+        let geometry = Geometry { q: 1, b: 1, p: 1 };
+        let mut sign = Sign::fresh(geometry, made_up_image(geometry)?)?;
+        sign.turn_until(21, &mut Progress::new())?;
+        reading(&mut sign, 21, address)?;
+        Ok(sign.reached)
+    }
+
+    #[test]
+    fn places_after_reads() {
+        assert_eq!(reached(0x1FC2_0000).ok(), Some(27));
+        assert_eq!(reached(0x1FC0_0000).ok(), Some(21));
     }
 }

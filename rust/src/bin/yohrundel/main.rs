@@ -2,11 +2,13 @@
 
 mod arguments;
 mod causes;
+mod bank_drawing;
 mod command;
 mod completion;
 mod cut;
 mod cut_arguments;
 mod cut_leaves;
+mod drawing;
 mod erased;
 mod failure;
 mod files;
@@ -60,6 +62,7 @@ mod sweep_sign;
 mod sweep_tally;
 mod sweep_text;
 mod sweep_threads;
+mod svg;
 mod timeline;
 mod times;
 mod torn;

@@ -35,8 +35,9 @@ impl PageState {
 
 /// The state of a page that holds some words now, by what it held before and what the new bank has there.
 ///
-/// Where no new bank is known, a page is new when no quad of it is blank. A page of the new bank may be all ones, or equal the old one. So
-/// a page that equals it is blank or old until the update has erased it, and new from then on.
+/// A page of the new bank may be all ones, or as it was before. So a page that equals it is blank or old until the update has erased it,
+/// and new from then on; in a bank that is not updated no page is erased. Where no new bank is known, a page is new when no quad of it is
+/// blank.
 pub fn page_state(old: &[u32], new: Option<&[u32]>, now: &[u32], is_erased: bool) -> PageState {
     let is_new = match new {
         Some(new) => now == new,

@@ -118,4 +118,54 @@ impl BankPages {
             boot,
         }
     }
+
+    /// How many pages of each state it has, in words.
+    pub fn summary(&self) -> String {
+        let pages = || self.boot.iter().chain(&self.program);
+        let count = |state| pages().filter(|page| page.state == state).count();
+        let counts = PageState::ALL.map(|state| (count(state), state.name()));
+        let counts = counts.iter().filter(|(count, _)| *count > 0);
+        let counts: Vec<String> = counts
+            .map(|(count, name)| format!("{count} {name}"))
+            .collect();
+        let runs = if self.runs { ", which runs," } else { "" };
+        let (number, counts) = (self.bank.number(), counts.join(", "));
+        format!("bank {number}{runs} has {counts}")
+    }
+}
+
+#[cfg(test)]
+mod tests {
+    use super::PageState::{Blank, New, Old};
+    use super::*;
+
+    /// A sign with pages of 8 quads whose program page is all ones in both banks and in the image; the bank of a number runs.
+    fn sign(runs: u16) -> Result<Sign, Decline> {
+        let geometry = Geometry { q: 1, b: 1, p: 1 };
+        let bank = |number: u16| {
+            let mut words = vec![7; 64];
+            words[geometry.sequence_index()?] = (!number as u32) << 16 | number as u32;
+            words[32..].fill(!0);
+            Ok(words)
+        };
+        let banks = [bank(3 - runs)?, bank(runs)?];
+        Sign::started(geometry, banks, bank(9)?)
+    }
+
+    /// The states of the boot page and the program page of each bank, at a place.
+    fn states(runs: u16, place: u32) -> Result<[[PageState; 2]; 2], Decline> {
+        let mut sign = sign(runs)?;
+        sign.note_place(place);
+        let SignPages(banks) = SignPages::of(&sign)?;
+        Ok(banks.map(|bank| [bank.boot[0].state, bank.program[0].state]))
+    }
+
+    /// Only in the bank that is updated is a page of all ones new, once it is erased, which is at place 43.
+    #[test]
+    fn pages_of_all_ones() {
+        assert_eq!(states(1, 42), Ok([[Old, Blank], [Old, Blank]]));
+        assert_eq!(states(1, 43), Ok([[Old, Blank], [Old, New]]));
+        assert_eq!(states(2, 42), Ok([[Old, Blank], [Old, Blank]]));
+        assert_eq!(states(2, 43), Ok([[Old, New], [Old, Blank]]));
+    }
 }

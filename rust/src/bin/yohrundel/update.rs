@@ -1,17 +1,20 @@
 //! `yohrundel update`: a whole update of a sign.
 
 use crate::arguments::Arguments;
+use crate::bank_drawing::BankDrawing;
 use crate::causes::started;
 use crate::command::{Command, First};
+use crate::drawing::SVG;
 use crate::failure::{Answer, Failure};
 use crate::given_sign::GivenSign;
+use crate::options::OptionSpec;
 use crate::picture::{legend, picture};
 use crate::progress::Progress;
 use crate::registers::REGISTER;
 use crate::saves::{Saves, SAVE1, SAVE2};
 use crate::sign::Sign;
 use crate::sign_files::{BANK1, BANK2};
-use crate::wording::{runs, whole_update};
+use crate::wording::{ending, runs, whole_update};
 
 pub const COMMAND: Command = Command {
     name: "update",
@@ -34,10 +37,13 @@ picture of both banks before and after.
 Beside an update a probe may read registers while the key step is 0 or 1: such a
 read changes nothing. A read at key step 2 or 3 closes the key and loses a store
 of the update; see docs/POWER-FAIL.md.",
-    options: &[BANK1, BANK2, REGISTER, SAVE1, SAVE2],
+    options: &[BANK1, BANK2, REGISTER, SAVE1, SAVE2, DRAWING],
     keys: &[],
     run,
 };
+
+const DRAWING: OptionSpec = SVG
+    .explained("draws both banks, page by page, before the update and after it, as SVG into FILE");
 
 fn run(mut arguments: Arguments) -> Answer {
     let mut progress = Progress::new();
@@ -47,16 +53,27 @@ fn run(mut arguments: Arguments) -> Answer {
     arguments.end()?;
     let mut sign = given.sign(geometry, path)?;
     let total = started(&sign)?;
-    let (report, legend) = (report(&mut sign, total, &mut progress)?, legend());
-    let bank = saves.write(&sign)?;
+    let mut drawing = BankDrawing::new("A whole update", geometry);
+    let report = report(&mut sign, total, &mut drawing, &mut progress)?;
+    drawing.write(arguments.value(&DRAWING))?;
+    let (bank, legend) = (saves.write(&sign)?, legend());
     Ok(bank.unwrap_or(format!("{report}\n{legend}").into()))
 }
 
 /// An accepted update from its start to its end.
-fn report(sign: &mut Sign, total: u32, progress: &mut Progress) -> Result<String, Failure> {
-    let (runs, before) = (runs(sign), picture(sign)?);
+fn report(
+    sign: &mut Sign,
+    total: u32,
+    drawing: &mut BankDrawing,
+    progress: &mut Progress,
+) -> Result<String, Failure> {
+    let before = format!("Before the update {}.", runs(sign));
+    let picture = picture(sign)?;
+    drawing.note("Before", &before, sign)?;
     let update = whole_update(sign, total, progress)?;
+    let after = "After the update, a power-on reset and start-up";
+    drawing.note(after, &ending(sign)?, sign)?;
     Ok(format!(
-        "Before the update {runs}.\n\n{before}\nThe update is accepted. {update}"
+        "{before}\n\n{picture}\nThe update is accepted. {update}"
     ))
 }
