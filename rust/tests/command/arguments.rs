@@ -341,7 +341,7 @@ fn files_that_cannot_be_written() {
             let ran = run(&["play", "/dev/null", option, path]);
             assert_eq!(ran.reason(3), format!("play: {reason}"));
         }
-        for line in ["update 1 1 1", "cut 1 1 1 0 0"] {
+        for line in ["update 1 1 1", "cut 1 1 1 0 0", "row 1 1 1 1 1"] {
             let (command, _) = line.split_once(' ').expect("a command");
             let ran = run(&format!("{line} --svg {path}")
                 .split(' ')

@@ -25,6 +25,7 @@ mod reaches;
 mod readme;
 mod reads;
 mod registers;
+mod row_drawings;
 mod rows;
 mod run;
 mod scripts;

@@ -23,8 +23,8 @@ pub struct Supply {
     pub row: Row,
     store: Vec<u32>,
     pub total: u32,
-    states: Vec<Vec<char>>,
-    together: Vec<usize>,
+    pub states: Vec<Vec<char>>,
+    pub together: Vec<usize>,
 }
 
 impl Supply {

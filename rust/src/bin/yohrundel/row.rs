@@ -5,12 +5,14 @@ use yohrundel::{Decline, MOST_SIGNS};
 use crate::arguments::{decimal, Arguments, DECIMAL_WORDS};
 use crate::causes::started;
 use crate::command::{Command, First};
+use crate::drawing::SVG;
 use crate::failure::{Answer, Failure};
 use crate::given_sign::GivenSign;
 use crate::json::JSON;
 use crate::options::OptionSpec;
 use crate::progress::Progress;
 use crate::registers::REGISTER;
+use crate::row_drawing::RowDrawing;
 use crate::row_report::{Ending, Report, KEYS};
 use crate::row_signs::Row;
 use crate::sign_files::{BANK1, BANK2};
@@ -31,7 +33,7 @@ It prints a line a sign of who waited and whose operation ran over time, how
 many operations ran together, how many calls it took, the longest wait, and
 which bank each sign runs after a reset and start-up.
 On a terminal the lines are as wide as COLUMNS says, else 72 columns.",
-    options: &[BANK1, BANK2, REGISTER, CUT, JSON],
+    options: &[BANK1, BANK2, REGISTER, CUT, JSON, DRAWING],
     keys: KEYS,
     run,
 };
@@ -41,6 +43,11 @@ const CUT: OptionSpec = OptionSpec::value(
     "CALL",
     "the supply fails after so many calls: all signs are reset together and started up, and each \
      runs its old bank, whole, or exactly the new",
+);
+
+const DRAWING: OptionSpec = SVG.explained(
+    "draws the banks of each sign before the updates, after the calls and after the start-up, and \
+     what each sign did over time, as SVG into FILE",
 );
 
 fn run(mut arguments: Arguments) -> Answer {
@@ -57,8 +64,9 @@ fn run(mut arguments: Arguments) -> Answer {
     let mut row = Row::of(sign, total, signs, k);
     let calls = last_call(&row, cut)?;
     let timeline = serve(&mut row, calls, &mut progress)?;
-    let ending = ending(&mut row, cut)?;
+    let (ending, drawing) = (ending(&mut row, cut)?, RowDrawing::at_end(&row)?);
     let report = Report::restart(&mut row, timeline, ending)?;
+    drawing.write(&row, &report, arguments.value(&DRAWING))?;
     if arguments.is_given(&JSON) {
         return Ok(report.json().line());
     }

@@ -33,11 +33,11 @@ struct SignEnd {
 
 /// What a row did, and its signs after it.
 pub struct Report {
-    k: u32,
+    pub k: u32,
     /// The actions of each update.
     total: u32,
-    timeline: Timeline,
-    ending: Ending,
+    pub timeline: Timeline,
+    pub ending: Ending,
     signs: Vec<SignEnd>,
 }
 
@@ -94,11 +94,15 @@ impl Report {
         let (head, timeline) = (self.head(), &self.timeline);
         let (picture, legend, summary) =
             (timeline.picture(), timeline.legend(), timeline.summary());
-        let (calls, end) = (counted(timeline.calls, "call"), self.ending.sentence());
-        let mut text = format!(
-            "{head}\n{picture}\n{legend}\n{summary}\n\
-             After {calls} {end}. After a power-on reset and start-up of all:\n"
-        );
+        let ends = self.ends();
+        format!("{head}\n{picture}\n{legend}\n{summary}\n{ends}")
+    }
+
+    /// How the calls end, and what each sign runs then.
+    pub fn ends(&self) -> String {
+        let (calls, end) = (counted(self.timeline.calls, "call"), self.ending.sentence());
+        let mut text =
+            format!("After {calls} {end}. After a power-on reset and start-up of all:\n");
         for (number, sign) in self.signs.iter().enumerate() {
             let (place, runs) = (sign.place, sign.sentence());
             text += &format!("sign {number:<2} at place {place}: {runs}\n");
@@ -106,7 +110,8 @@ impl Report {
         text
     }
 
-    fn head(&self) -> String {
+    /// How many signs hang on what supply.
+    pub fn head(&self) -> String {
         let (count, k, actions) = (self.signs.len(), self.k, counted(self.total, "action"));
         let signs = if count == 1 {
             "sign hangs"
@@ -181,7 +186,7 @@ impl SignEnd {
 
 impl Ending {
     /// The rest of a sentence that begins with the calls.
-    fn sentence(self) -> &'static str {
+    pub fn sentence(self) -> &'static str {
         match self {
             Ending::Cut => "the supply fails",
             Ending::Idle => "the row is idle",

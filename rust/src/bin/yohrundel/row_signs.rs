@@ -1,9 +1,12 @@
 //! A row of equal signs on one supply.
 
 use yohrundel::reset_kind::POWER_ON;
-use yohrundel::{reset, schedule, start_up, Bank, Decline, Served, SignRecord, Standing, Supply};
+use yohrundel::{
+    reset, schedule, start_up, Bank, Decline, Geometry, Served, SignRecord, Standing, Supply,
+};
 
 use crate::sign::Sign;
+use crate::sign_pages::SignPages;
 
 pub struct Row {
     /// The sign as each was before its update.
@@ -34,6 +37,11 @@ impl Row {
             sign,
             k,
         }
+    }
+
+    /// The sizes of each sign.
+    pub fn geometry(&self) -> Geometry {
+        self.sign.geometry
     }
 
     /// The calls that do all actions of all updates.
@@ -83,10 +91,26 @@ impl Row {
     }
 
     fn bank(&self, sign: &SignRecord, bank: Bank) -> &[u32] {
-        let start = match bank {
-            Bank::One => sign.one,
-            Bank::Two => sign.two,
+        self.banks(sign)[bank.number() as usize - 1]
+    }
+
+    /// Both banks of a sign.
+    fn banks(&self, sign: &SignRecord) -> [&[u32]; 2] {
+        let words = self.sign.image.len();
+        [sign.one, sign.two].map(|start| &self.store[start as usize..][..words])
+    }
+
+    /// The pages of each sign.
+    pub fn pages(&self) -> Result<Vec<SignPages>, Decline> {
+        let pages = |sign: &SignRecord| {
+            let (before, now) = (&self.sign, self.banks(sign));
+            SignPages::at(before, sign.device, now, sign.place)
         };
-        &self.store[start as usize..][..self.sign.image.len()]
+        self.signs.iter().map(pages).collect()
+    }
+
+    /// The pages of a sign before its update.
+    pub fn pages_before(&self) -> Result<SignPages, Decline> {
+        SignPages::of(&self.sign)
     }
 }
