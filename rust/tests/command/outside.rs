@@ -268,7 +268,10 @@ impl Sign {
         let range = (number * words) as usize..((number + 1) * words) as usize;
         let is_blank = |words: &[u32]| words.iter().all(|word| *word == 0xFFFF_FFFF);
         let index = bank.number() as usize - 1;
-        let (is, old) = (&self.banks[index][range.clone()], &self.before[index][range.clone()]);
+        let (is, old) = (
+            &self.banks[index][range.clone()],
+            &self.before[index][range.clone()],
+        );
         let is_new = match self.new_is_known {
             true => is == &self.new[range],
             false => !is.chunks(4).any(is_blank),

@@ -1,9 +1,9 @@
 //! The command `yohrundel`: scripts, whole updates and updates that are cut, for people.
 
 mod arguments;
-mod causes;
 mod bank_drawing;
 mod bars;
+mod causes;
 mod command;
 mod completion;
 mod cut;
@@ -54,6 +54,7 @@ mod sign_files;
 mod sign_pages;
 mod smallest;
 mod start;
+mod svg;
 mod sweep;
 mod sweep_cuts;
 mod sweep_join;
@@ -64,7 +65,6 @@ mod sweep_sign;
 mod sweep_tally;
 mod sweep_text;
 mod sweep_threads;
-mod svg;
 mod timeline;
 mod timeline_columns;
 mod timeline_drawing;
