@@ -287,7 +287,7 @@ fn images_of_a_wrong_length() {
         let path = file(&format!("image-of-{length}-bytes"), &vec![0; length]);
         let path = path.to_str().expect("a name in UTF-8");
         let reason = "2: a bank, the image, the SRAM or the result has a wrong length";
-        let cause = format!("{path:?} does not have the 256 bytes of a bank");
+        let cause = format!("{path:?} has {length} bytes, not the 256 of a bank");
         let reason = format!("{reason}: {cause}");
         declined(&format!("update 1 1 1 {path}"), &reason);
         declined(&format!("script 1 1 1 {path}"), &reason);

@@ -131,7 +131,7 @@ fn second_image_of_a_wrong_length() {
     for length in [0, 255, 257, 512] {
         let wrong = named(&format!("reach-wrong-{length}"), &vec![0; length]);
         let reason = "2: a bank, the image, the SRAM or the result has a wrong length";
-        let cause = format!("{wrong:?} does not have the 256 bytes of a bank");
+        let cause = format!("{wrong:?} has {length} bytes, not the 256 of a bank");
         let ran = run(&["reach", "1", "1", "1", &right, &wrong]);
         assert_eq!(
             ran.reason(1),

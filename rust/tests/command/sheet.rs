@@ -181,7 +181,7 @@ fn bank_of_a_wrong_length() {
     let banks = [vec![!0; 64], vec![!0; 63]];
     let [one, two] = &files("short", &banks);
     let reason = "2: a bank, the image, the SRAM or the result has a wrong length";
-    let cause = format!("{two:?} does not have the 256 bytes of a bank");
+    let cause = format!("{two:?} has 252 bytes, not the 256 of a bank");
     let ran = sheet([1, 1, 1], [one, two], &[]);
     assert_eq!(
         ran.reason(1),

@@ -236,7 +236,7 @@ fn objects() {
     let short = named("start-short", &[0; 255]);
     let ran = run(&["start", "1", "1", "1", "--json", &short]);
     let sentence = "a bank, the image, the SRAM or the result has a wrong length";
-    let cause = format!("{short:?} does not have the 256 bytes of a bank");
+    let cause = format!("{short:?} has 255 bytes, not the 256 of a bank");
     assert_eq!(answered(ran, 1), declined_object(2, sentence, Some(&cause)));
     let ran = run(&["start", "1", "1", "1", "--json", "/no"]);
     let reason = "start: \"/no\" cannot be read: No such file or directory (os error 2)";

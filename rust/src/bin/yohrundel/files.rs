@@ -9,6 +9,7 @@ use yohrundel::{Decline, Geometry};
 
 use crate::failure::Failure;
 use crate::hex_bank;
+use crate::wording::counted;
 
 /// The bytes of a file, of standard input where its name is `-`; at most so many from its front.
 pub fn bytes(path: &OsStr, most: usize) -> Result<Vec<u8>, Failure> {
@@ -43,10 +44,21 @@ pub fn bank(geometry: Geometry, path: &OsStr) -> Result<Vec<u32>, Failure> {
     }
     let bytes = bytes(path, length + 1)?;
     if bytes.len() != length {
-        let cause = format!("{path:?} does not have the {length} bytes of a bank");
+        let given = given_length(path, bytes.len(), length);
+        let cause = format!("{path:?} has {given}, not the {length} of a bank");
         return Err(Failure::declined(Decline::Length, cause));
     }
     Ok(words(&bytes))
+}
+
+/// How long a file is of which so many bytes were read, at most one more than are asked.
+fn given_length(path: &OsStr, read: usize, asked: usize) -> String {
+    let known = fs::metadata(path).ok().filter(fs::Metadata::is_file);
+    match known {
+        Some(known) => counted(known.len() as usize, "byte"),
+        None if read > asked => format!("more than {asked} bytes"),
+        None => counted(read, "byte"),
+    }
 }
 
 /// The words of a bank as a file has them.
