@@ -21,7 +21,7 @@ $(archive): $(proved)
 	cd target/objects && for crate in $(crates); do ar x ../staticlib/lib$$crate.a || exit; done
 	ar rcs $@ target/objects/*.o
 
-$(command): $(archive) $(shell find rust/src rust/build.rs rust/Cargo.toml -type f)
+$(command): $(archive) $(shell find rust/src rust/build.rs rust/Cargo.toml -type f) $(wildcard .git/logs/HEAD)
 	cargo build --offline --release --quiet --manifest-path rust/Cargo.toml
 	touch $@
 
