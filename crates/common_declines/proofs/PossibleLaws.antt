@@ -17,8 +17,8 @@ use Rattle.device.specs.declared.record.Device.{Device}
 use Rattle.device.specs.declared.record.Operands.{Operands}
 use Rattle.device.specs.Registers.{withinOf, ALWAYS}
 use Rattle.device.specs.Builders.{withCon, withLaunched, withOperands}
-use Rattle.device.specs.Record.{registerOf, running, operandsOf, noOperands}
-use Rattle.common_declines.specs.Possible.{rowsFit, implementedOf, launchedFitsOf, nothingLaunchedOf, runningOf, restingOf, possibleOf}
+use Rattle.device.specs.Record.{registerOf, running, operandsOf}
+use Rattle.common_declines.specs.Possible.{rowsFit, implementedOf, launchedFitsOf, runningOf, restingOf, possibleOf}
 
 -- each register is within its mask
 pub record Implemented (d : Device) : Type 0 where
@@ -37,7 +37,7 @@ word-test w h = within-test 0xFFFF_FFFF w (below-within 32 w h)
 test-word : (w : ℕ) → eqb (bitAnd w 0xFFFF_FFFF) w ≡ true → w < 2 ^ 32
 test-word w e = within-below 32 w (test-within 0xFFFF_FFFF w e)
 
-pub implemented : (d : Device) → implementedOf d ≡ true → Implemented d
+implemented : (d : Device) → implementedOf d ≡ true → Implemented d
 unfolding implementedOf registerOf
 implemented d h =
     let s10 = and-both (rowsFit d 10) (withinOf 10 (registerOf d 10)) h in
@@ -62,7 +62,7 @@ implemented d h =
       con2 = test-within 0xF01F_B3C0 (d .nvmcon2 .0) (s10 .1);
     }
 
-pub implemented-test : (d : Device) → Implemented d → implementedOf d ≡ true
+implemented-test : (d : Device) → Implemented d → implementedOf d ≡ true
 unfolding implementedOf registerOf
 implemented-test d h =
     rw (
@@ -142,11 +142,6 @@ resting g d h idle = rw idle at (possible g d h .runs)
 pub idle-step : (g : Geometry) (d : Device) → possibleOf g d ≡ true → running d ≡ false → d .step ≡ 0
 unfolding restingOf
 idle-step g d h idle = eqb-true _ _ (and-both (eqb (d .step) 0) _ (resting g d h idle) .0)
-
--- and with nothing launched it can rest
-pub rests-empty : (d : Device) → d .step ≡ 0 → d .launched ≡ noOperands → restingOf d ≡ true
-unfolding restingOf nothingLaunchedOf
-rests-empty d step launched = rw (step, launched)
 
 -- the rows say nothing of the key step and the step number
 pub same-rows : (d : Device) (con keystep step : ℕ) → Within 0xF0CF con → Implemented d → Implemented (withCon d con keystep step)

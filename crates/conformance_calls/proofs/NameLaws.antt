@@ -1,7 +1,7 @@
 -- A name that is a known call's is named so; one that is none of theirs is the unknown one's.
 -- Assumes nothing.
 use mathlib.Core.Path.{_≡_, sym, _∙_}
-use mathlib.Core.Bool.{true, false}
+use mathlib.Core.Bool.{true}
 use mathlib.Core.List.{List}
 use Prim.Native.Nat.{ℕ}
 use Rattle.words.proofs.BitLaws.{true-not-false}

@@ -35,7 +35,7 @@ module _ (g : Geometry) (d : Device) (k : ℕ) (apart : bit k 0xB000 ≡ false) 
   unfolding Keeps
   keeps-or mask event operands h = bit-or k (d .nvmcon .0) mask ∙ rw (outside-bit 0xB000 mask k h apart) (or-false (bit k (d .nvmcon .0)))
 
-  pub launch-keeps : bit k (launchOf g d .nvmcon) ≡ bit k (d .nvmcon .0)
+  launch-keeps : bit k (launchOf g d .nvmcon) ≡ bit k (d .nvmcon .0)
   unfolding launchOf Keeps
   launch-keeps =
       pick-both Keeps (eqb (opOf d) 0)

@@ -5,7 +5,6 @@ use Rattle.device.specs.Registers.{withinOf}
 use Rattle.common_declines.specs.Possible.{implementedOf, possibleOf}
 use Rattle.controller.specs.Controller.{Controller}
 use Rattle.controller.proofs.DeviceLaws.{power-on-possible}
-use Rattle.controller.specs.Controller.Operation.{step, reset}
 use Rattle.controller.proofs.WriteLaws.{step-writes, reset-writes, one-quad}
 use Rattle.controller.proofs.KeepLaws.{keeps}
 use Rattle.controller.proofs.RunLaws.{run-sound, declined-same, compared, not-compared, none-valid}

@@ -2,17 +2,15 @@
 -- tear write in no protected page, and the steps of a flash read that waits leave the protection, too.
 -- Assumes nothing.
 use mathlib.Core.Path.{_≡_, refl, sym, ap, _∙_}
-use mathlib.Core.Bool.{Bool, true, false, not, _&&_, and-true}
+use mathlib.Core.Bool.{Bool, false, not, _&&_, and-true}
 use mathlib.Core.List.{List}
 use Prim.Native.Nat.{ℕ, _+_, _^_}
-use lib.ListN.{length}
-use Rattle.words.specs.Word.{pick, bit, hasOf, clearOf}
+use Rattle.words.specs.Word.{bit, hasOf, clearOf}
 use Rattle.words.proofs.BitLaws.{clear-bit, has-bit}
 use Rattle.geometry.specs.declared.banks.Geometry.{Geometry}
-use Rattle.geometry.specs.Banks.{pageAt}
 use Rattle.device.specs.declared.record.Device.{Device}
 use Rattle.device.specs.Registers.{WR, WRERR}
-use Rattle.device.specs.State.{State, bankOf}
+use Rattle.device.specs.State.{State}
 use Rattle.protection.specs.Protection.{protectedOf}
 use Rattle.flash.specs.Effect.{effectOf}
 use Rattle.reads.specs.Read.{stepsOf}

@@ -17,22 +17,21 @@ use Rattle.geometry.specs.declared.banks.Geometry.{Geometry}
 use Rattle.sequence.specs.declared.comparison.Reason.{Reason}
 use Rattle.device.specs.declared.record.Device.{Device}
 use Rattle.device.specs.declared.record.Operands.{Operands}
-use Rattle.device.specs.declared.answer.Answer.{Answer}
 use Rattle.register_access.specs.declared.RegisterRead.{RegisterRead}
 use Rattle.device.specs.Registers.{WR, WRERR, BFSWAP, NVMERS, resets}
 use Rattle.device.specs.Numbers.{NVMCON, NVMPWP, NVMBWP, NVMCON2}
 use Rattle.device.specs.Builders.{powerOn, withCon, withStored, withLaunched, withOperands}
 use Rattle.device.specs.Record.{running, opOf, operandsOf, noOperands}
-use Rattle.device.specs.State.{State, state, after}
+use Rattle.device.specs.State.{State, after}
 use Rattle.protection.specs.Protection.{pwpOf}
-use Rattle.nvmop.specs.Operation.{beginsAtOf, lengthOf}
+use Rattle.nvmop.specs.Operation.{beginsAtOf}
 use Rattle.common_declines.specs.Possible.{launchedFitsOf, nothingLaunchedOf, runningOf, restingOf, possibleOf}
 use Rattle.common_declines.proofs.PossibleLaws.{possible, possible-test, resting, launched-fit}
 use Rattle.register_access.specs.Store.{loadsOf, mayStoreOf, storeDeclineOf, appliedOf, storeAcceptedOf, storeOf, readDeclineOf, registerReadOf}
 use Rattle.register_access.proofs.AcceptedLaws.{store-ready, store-at-rest}
 use Rattle.register_fields.specs.Fields.{wantedOf}
 use Rattle.flash.specs.Effect.{stepAtOf, sourceFitsOf, effectOf}
-use Rattle.flash.specs.Step.{endedOf, advanceOf, stepOf}
+use Rattle.flash.specs.Step.{endedOf, stepOf}
 use Rattle.words.specs.declared.decline.Decline.{Decline}
 use Rattle.map.specs.Windows.{locateOf}
 use Rattle.reads.specs.Read.{secondAtOf, freeOf, Stepped, stepped, remainingOf, waitedOf, readAnswerOf, wordReadOf, Reading, reading, flashReadOf}

@@ -40,7 +40,7 @@ use Rattle.flash.proofs.AcceptedLaws.{step-ready}
 use Rattle.reads.specs.Read.{flashReadDeclineOf, readAnswerOf, Stepped, stepped, stepsOf}
 use Rattle.reads.proofs.StepsLaws.{onOf}
 use Rattle.controller.specs.Controller.{answerOf, transitionOf, runOf}
-use Rattle.controller.specs.Controller.Operation.{store, step}
+use Rattle.controller.specs.Controller.Operation.{store}
 use Rattle.controller.specs.Loads.{Move, movesOf, worksOf, Loads, Given, givenOf, ButLoaded}
 use Rattle.controller.specs.Loads.Move.{work, load}
 use Rattle.controller.proofs.ChangeLaws.{other-register}

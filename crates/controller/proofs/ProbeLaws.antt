@@ -41,7 +41,7 @@ read-leaves : (g : Geometry) (d : Device) (r : ℕ) → acceptedOf (readDeclineO
 unfolding registerReadOf
 read-leaves g d r on = rw on
 
-pub read-unchanged : (g : Geometry) (d : Device) (r : ℕ) → d .keystep ≤ 1 → registerReadOf g d r .device ≡ d
+read-unchanged : (g : Geometry) (d : Device) (r : ℕ) → d .keystep ≤ 1 → registerReadOf g d r .device ≡ d
 read-unchanged g d r low =
     by-read g d r (λ a. a .device ≡ d) (λ on. read-leaves g d r on ∙ ap (keyed d) (key-kept (d .keystep) (omega arith))) (λ off. refl)
 

@@ -1,9 +1,6 @@
 -- What steps keep, a flash read keeps: it leaves the state, or is steps one after another. Assumes nothing.
-use mathlib.Core.Path.{_≡_, refl}
-use mathlib.Core.List.{List, [], _∷_}
+use mathlib.Core.List.{List}
 use Prim.Native.Nat.{ℕ, zero, suc}
-use lib.ListN.{length}
-use Rattle.words.specs.Word.{pick}
 use Rattle.words.specs.Decline.{acceptedOf}
 use Rattle.words.proofs.PickLaws.{pick-both}
 use Rattle.geometry.specs.declared.banks.Geometry.{Geometry}

@@ -33,7 +33,7 @@ module _ (g : Geometry) (d : Device) (rest : AtRest g d) where
       rw off (has-bit 15 (mergeOf (conTakesOf d) w (d .nvmcon .0)) ∙ taken-idle g d rest w)
 
   -- a store that does not launch leaves the device at rest
-  pub store-rests : (r form value : ℕ) → hasFormOf r form ≡ true → value < 2 ^ 32
+  store-rests : (r form value : ℕ) → hasFormOf r form ≡ true → value < 2 ^ 32
       → (eqb r 0 && launchesOf d (wantedOf form (d .nvmcon .0) value)) ≡ false → AtRest g (storeOf g d r form value .device)
   unfolding storeAcceptedOf appliedOf registerOf
   store-rests r form value ok word off =
@@ -58,7 +58,7 @@ module _ (g : Geometry) (d : Device) (rest : AtRest g d) where
       idle false e off = rest .idle
 
   -- a value with bit 15 at 0, in any form, does not launch
-  pub asks-no-launch : (form value : ℕ) → bit 15 value ≡ false → launchesOf d (wantedOf form (d .nvmcon .0) value) ≡ false
+  asks-no-launch : (form value : ℕ) → bit 15 value ≡ false → launchesOf d (wantedOf form (d .nvmcon .0) value) ≡ false
   unfolding launchesOf
   asks-no-launch form value off =
       let con = d .nvmcon .0 in

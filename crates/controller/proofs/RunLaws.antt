@@ -25,7 +25,7 @@ use Rattle.sequence.proofs.ComparisonLaws.{reasons}
 use Rattle.resets.specs.Reset.{tearOf, comparisonOf, resetReasonOf}
 use Rattle.resets.proofs.AcceptedLaws.{reset-ready}
 use Rattle.device.specs.State.{State, state}
-use Rattle.controller.specs.Controller.{Operation, answerOf, transitionOf, runOf, AllAccepted, BringsWord, BringWords, Sound}
+use Rattle.controller.specs.Controller.{Operation, answerOf, transitionOf, runOf, BringsWord, BringWords, Sound}
 use Rattle.controller.specs.Controller.Operation.{store, registerRead, flashRead, step, reset}
 use Rattle.controller.proofs.StoreLaws.{store-possible, read-leaves-possible}
 use Rattle.controller.proofs.DeviceLaws.{advance-possible, reset-possible, reset-swap}
@@ -100,11 +100,6 @@ run-sound g s h (o ∷ l) w = run-sound g (transitionOf g s o) (transition-sound
 pub run-append : (g : Geometry) (s : State) (first other : List Operation) → runOf g s (first ++ other) ≡ runOf g (runOf g s first) other
 run-append g s [] other = refl
 run-append g s (o ∷ first) other = run-append g (transitionOf g s o) first other
-
-pub all-accepted-append : (g : Geometry) (s : State) (first other : List Operation)
-    → AllAccepted g s first → AllAccepted g (runOf g s first) other → AllAccepted g s (first ++ other)
-all-accepted-append g s [] other a b = b
-all-accepted-append g s (o ∷ first) other a b = (a .0, all-accepted-append g (transitionOf g s o) first other (a .1) b)
 
 -- ---- a declined operation changes nothing
 read-declined : (g : Geometry) (s : State) (sram : List ℕ) (address : ℕ) → acceptedOf (flashReadOf g s sram address .after .decline) ≡ false

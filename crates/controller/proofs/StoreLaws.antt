@@ -99,7 +99,7 @@ module _ (g : Geometry) (d : Device) (can : possibleOf g d ≡ true) where
           rw (ne-eqb r 1 (λ e. omega arith), ne-eqb r 8 (λ e. omega arith)) (and-both (eqb (d .keystep) 0) _ runs .1)
       go false may rests = rests
 
-  pub applied-possible : (r w : ℕ) → w < 2 ^ 32 → mayStoreOf d r ≡ true → possibleOf g (appliedOf d r w) ≡ true
+  applied-possible : (r w : ℕ) → w < 2 ^ 32 → mayStoreOf d r ≡ true → possibleOf g (appliedOf d r w) ≡ true
   unfolding appliedOf
   applied-possible r w hw may =
       possible-test g (appliedOf d r w)
@@ -212,7 +212,7 @@ module _ (g : Geometry) (d : Device) (rest : AtRest g d) where
   pub con-holds : (w : ℕ) → let l = conStoreOf g d w in l .operands ≡ pick (hasOf (l .nvmcon) WR) (operandsOf d) (d .launched)
   con-holds w = con-can w .holds
 
-  pub con-possible : (w : ℕ) → possibleOf g (after (conStoreOf g d w)) ≡ true
+  con-possible : (w : ℕ) → possibleOf g (after (conStoreOf g d w)) ≡ true
   con-possible w =
       let can = con-can w in
       possible-test g (after (conStoreOf g d w))

@@ -1,18 +1,17 @@
 -- Which bank the running operation targets: all steps of an operation but NVMOP 7 lie in one bank, and those of 7 in both.
 -- Assumes nothing.
 use mathlib.Core.Path.{_≡_, refl, sym, ap, _∙_}
-use mathlib.Core.Bool.{Bool, true, false, not, _&&_}
+use mathlib.Core.Bool.{Bool, true, false, not}
 use mathlib.Core.List.{List}
 use Prim.Native.Nat.{ℕ, _*_, _<_}
 use native.Mathlib.Omega.{arith}
-use lib.Dec.{eqb, ltb}
+use lib.Dec.{eqb}
 use borrow.Author.Tests.{not-true, not-false, eqb-true, lt-ltb, le-ltb}
 use Rattle.words.specs.Word.{pick}
 use Rattle.words.specs.Decline.{acceptedOf}
 use Rattle.words.proofs.PickLaws.{and-both}
 use Rattle.words.proofs.BitLaws.{true-not-false}
 use Rattle.geometry.specs.declared.banks.Geometry.{Geometry}
-use Rattle.geometry.proofs.SizeLaws.{in-range}
 use Rattle.map.specs.Windows.{locateOf}
 use Rattle.device.specs.declared.record.Device.{Device}
 use Rattle.device.specs.Record.{running, pfswap, opOf}

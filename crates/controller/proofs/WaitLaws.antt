@@ -3,7 +3,7 @@
 use mathlib.Core.Path.{_≡_, refl, sym, ap, _∙_}
 use mathlib.Core.Bool.{Bool, true, false, not, _&&_, and-false}
 use mathlib.Core.List.{List, [], _∷_}
-use Prim.Native.Nat.{ℕ, zero, suc, _+_, _-_, _≤_}
+use Prim.Native.Nat.{ℕ, zero, suc, _+_, _≤_}
 use native.Mathlib.Omega.{arith}
 use lib.Dec.{eqb}
 use lib.ListN.{length, replicate}
@@ -135,7 +135,7 @@ module _ (g : Geometry) (sram : List ℕ) (listed : inRangeOf g ≡ true) (short
       d : Device
       d = s .device
 
-  pub steps-end : (n : ℕ) (s : State) → Sound g s → running (s .device) ≡ true → remainingOf g (s .device) ≤ n
+  steps-end : (n : ℕ) (s : State) → Sound g s → running (s .device) ≡ true → remainingOf g (s .device) ≤ n
       → running (stepsOf g sram n s .state .device) ≡ false
   unfolding stepsOf
   steps-end zero s sound on few =

@@ -3,7 +3,7 @@ use mathlib.Core.Path.{_≡_, refl, sym, ap, _∙_}
 use mathlib.Core.Bool.{Bool, true, false, not, _&&_}
 use mathlib.Core.Logic.{_⊎_, inl, inr}
 use mathlib.Core.List.{List, [], _∷_}
-use Prim.Native.Nat.{ℕ, zero, suc, _+_, _-_, _*_, _≤_, _<_}
+use Prim.Native.Nat.{ℕ, zero, suc, _+_, _*_, _≤_, _<_}
 use native.Mathlib.Omega.{arith}
 use lib.Dec.{eqb}
 use lib.ListN.{length, replicate}
@@ -28,7 +28,7 @@ use Rattle.device.specs.declared.answer.Answer.{Answer}
 use Rattle.device.specs.Registers.{WR, WRERR}
 use Rattle.device.specs.Builders.{withCon}
 use Rattle.device.specs.Record.{running, opOf}
-use Rattle.device.specs.State.{State, state, bankOf, after}
+use Rattle.device.specs.State.{State, bankOf, after}
 use Rattle.nvmop.specs.Operation.{lengthOf}
 use Rattle.common_declines.specs.CommonDecline.{commonDeclineOf}
 use Rattle.flash.specs.Effect.{stepAtOf, effectOf}

@@ -32,8 +32,8 @@ use Rattle.sequence.specs.declared.comparison.Reason.{Reason}
 use Rattle.resets.specs.Reset.{tornOf, tearOf, comparisonOf, restartOf, resetAnswerOf, Explained, explained, explainedOf, resetOf}
 use Rattle.resets.proofs.AcceptedLaws.{reset-ready}
 use Rattle.device.specs.State.{State, bankOf, After, after}
-use Rattle.controller.specs.Controller.{Operation, transitionOf, Outside, stepSecondOf, stepQuadOf, OneQuad}
-use Rattle.controller.specs.Controller.Operation.{store, registerRead, flashRead, step, reset}
+use Rattle.controller.specs.Controller.{transitionOf, Outside, stepSecondOf, stepQuadOf, OneQuad}
+use Rattle.controller.specs.Controller.Operation.{step, reset}
 use Rattle.controller.proofs.ProtectionLaws.{unprotected}
 
 -- ---- what an accepted operation leaves, and what a declined one

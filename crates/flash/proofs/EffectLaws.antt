@@ -69,7 +69,7 @@ module _ (g : Geometry) (ok : InRange g) where
       go true e = omega (arith, ltb-true step (regionSteps g) e)
       go false e = omega (arith, ltb-false step (regionSteps g) e)
 
-  pub none-above : (op address pwp : ℕ) → 8 ≤ op → beginsAtOf g op address pwp ≡ false
+  none-above : (op address pwp : ℕ) → 8 ≤ op → beginsAtOf g op address pwp ≡ false
   unfolding beginsAtOf
   none-above op address pwp h =
       rw (

@@ -1,7 +1,7 @@
 -- What a limit lets pass has its P up to the limit, and up to 64 both limits let pass the same. Assumes nothing.
 use Prim.Native.Nat.{ℕ, _≤_, _<_}
-use mathlib.Core.Path.{_≡_, refl, sym, ap, _∙_}
-use mathlib.Core.Bool.{Bool, true, false, _&&_}
+use mathlib.Core.Path.{_≡_, refl, ap, _∙_}
+use mathlib.Core.Bool.{Bool, true, false}
 use mathlib.Core.List.{List}
 use native.Mathlib.Omega.{arith}
 use lib.Dec.{leb}
@@ -21,11 +21,11 @@ same-range g h = rw (le-leb (g .p) mostBefore h, le-leb (g .p) 128 (omega arith)
 
 module _ (most : ℕ) (g : Geometry) (h : inRangeUpTo most g ≡ true) where
   -- what a limit lets pass
-  pub record Passed : Type 0 where
-    pub listed : listedOf (g .q) ≡ true
-    pub b-low : leb 1 (g .b) ≡ true
-    pub b-high : leb (g .b) mostBootPages ≡ true
-    pub p-high : g .p ≤ most
+  record Passed : Type 0 where
+    listed : listedOf (g .q) ≡ true
+    b-low : leb 1 (g .b) ≡ true
+    b-high : leb (g .b) mostBootPages ≡ true
+    p-high : g .p ≤ most
 
   passed : Passed
   unfolding inRangeUpTo

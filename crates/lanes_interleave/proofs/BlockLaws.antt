@@ -11,14 +11,14 @@ use Rattle.lanes_interleave.specs.Interleave.{Interleaved}
 use Rattle.lanes_interleave.specs.Blocks.{WordsBack}
 
 -- the part of a list from a to e
-abbrev pub part : List ℕ → ℕ → ℕ → List ℕ
+abbrev part : List ℕ → ℕ → ℕ → List ℕ
 part l a e = take (e - a) (drop a l)
 
 part-at : (l : List ℕ) (a e m i : ℕ) → m < e - a → a + m ≡ i → getD (part l a e) m 0 ≡ getD l i 0
 part-at l a e m i h same = getD-take (e - a) (drop a l) m 0 h ∙ getD-drop a l m 0 ∙ rw same
 
 -- a block's part of each lane
-abbrev pub lanesOfBlock : List ℕ → ℕ → ℕ → ℕ → List (List ℕ)
+abbrev lanesOfBlock : List ℕ → ℕ → ℕ → ℕ → List (List ℕ)
 lanesOfBlock source n from to =
     part source from to ∷ part source (n + from) (n + to) ∷ part source (2 * n + from) (2 * n + to) ∷ part source (3 * n + from) (3 * n + to) ∷ []
 

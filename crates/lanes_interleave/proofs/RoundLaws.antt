@@ -28,7 +28,7 @@ abbrev pub Apart : ℕ → ℕ → (ℕ → ℕ → ℕ) → Type 0
 Apart c n to = (k j l m : ℕ) → k < c → l < c → j < n → m < n → to k j ≡ to l m → (k ≡ l) × (j ≡ m)
 
 -- the target after round i
-abbrev pub round : ℕ → (ℕ → ℕ → ℕ) → (ℕ → ℕ → ℕ) → List ℕ → ℕ → List ℕ
+abbrev round : ℕ → (ℕ → ℕ → ℕ) → (ℕ → ℕ → ℕ) → List ℕ → ℕ → List ℕ
 round c to value target i = put target (λ k. to k i) (λ k. value k i) c
 
 pub moved-next : (c n : ℕ) (to value : ℕ → ℕ → ℕ) (target : List ℕ) (i : ℕ) → Apart c n to

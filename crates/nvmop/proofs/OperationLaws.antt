@@ -39,7 +39,7 @@ module _ (g : Geometry) (ok : InRange g) where
       area = mul-le-mul (ok .q-low) (ok .p-low)
 
   module _ (op address : ℕ) (l : Location) (e : l ≡ targetOf g op address) (inside : l .inside ≡ true) where
-    pub target-room : l .offset < windowBytesOf g (l .program)
+    target-room : l .offset < windowBytesOf g (l .program)
     unfolding targetOf
     target-room = rw e (stands g ok (roundDownOf address (unitOf g op)) (rw e at inside) .room)
 

@@ -19,14 +19,14 @@ use Rattle.planner.proofs.RangeLaws.{numbers-range, window-range, insid
 use Rattle.planner.proofs.LeastLaws.{least-none, least-more}
 
 -- by one window: 0, the whole week where no wait fits, or up to its next first minute
-abbrev pub closedAt : ℕ → ℕ → Window → ℕ
+abbrev closedAt : ℕ → ℕ → Window → ℕ
 closedAt minute duration w =
     pick (eqb (w .length) week) 0
     (pick (ltb (w .length) duration) week
     (pick (leb (offset (w .start) minute + duration) (w .length)) 0 (week - offset (w .start) minute)))
 
 -- by the first n windows
-abbrev pub closedBelow : ℕ → ℕ → List ℕ → ℕ → ℕ
+abbrev closedBelow : ℕ → ℕ → List ℕ → ℕ → ℕ
 closedBelow minute duration lent zero = week
 closedBelow minute duration lent (suc n) = min (closedBelow minute duration lent n) (closedAt minute duration (windowAt lent n))
 

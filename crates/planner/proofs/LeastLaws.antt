@@ -14,7 +14,7 @@ module _ (minute duration : ℕ) (lent : List ℕ) where
   least-none = first-is (fitsOf minute duration lent 0) week week (first-never week)
 
   -- the least wait by window i alone
-  abbrev pub leastAt : ℕ → ℕ
+  abbrev leastAt : ℕ → ℕ
   leastAt i = firstFrom (fitsInOf minute duration (windowAt lent i)) 0 week
 
   pub least-more : (i : ℕ) → min (leastWaitOf minute duration lent i) (leastAt i) ≡ leastWaitOf minute duration lent (i + 1)

@@ -2,16 +2,15 @@
 -- Assumes nothing.
 use Prim.Native.Nat.{ℕ, zero, suc, _+_, _*_, _^_, _≤_, _<_}
 use mathlib.Core.Path.{_≡_, refl, sym, ap, _∙_}
-use mathlib.Core.Bool.{Bool, true, false, not, _&&_}
+use mathlib.Core.Bool.{Bool, true, false}
 use native.Mathlib.Omega.{arith}
 use native.Mathlib.Nat.{mul-le-mul-right, mod-lt, mul-assoc, mul-comm}
-use lib.Dec.{eqb, leb}
+use lib.Dec.{eqb}
 use borrow.Author.Tests.{ne-eqb, le-leb, lt-leb}
 use Rattle.geometry.specs.declared.banks.Geometry.{Geometry}
 use Rattle.geometry.specs.Banks.{programBytesOf, pageBytesOf, InRange}
 use Rattle.geometry.proofs.SizeLaws.{in-range}
-use Rattle.device.specs.declared.record.Device.{Device}
-use Rattle.protection.specs.Protection.{pwpOf, pageOffsetOf, programProtectedOf, protectedOf}
+use Rattle.protection.specs.Protection.{pageOffsetOf, programProtectedOf, protectedOf}
 use Rattle.protection.specs.Reach.{Protectable, Reach}
 
 -- the least PWP that is not 0 and reaches an offset

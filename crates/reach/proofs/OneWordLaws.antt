@@ -12,7 +12,7 @@ use Rattle.reach.specs.Reach.{differenceOf}
 use Rattle.reach.specs.Differing.{OneWord, differingOf, Meaning}
 use Rattle.reach.proofs.DifferenceLaws.{word-counted, word-passed, meaning}
 
-abbrev pub found : ℕ → ℕ → ℕ → Difference
+abbrev found : ℕ → ℕ → ℕ → Difference
 found count lowest highest = record { count = count; lowest = lowest; highest = highest }
 
 module _ (image other : List ℕ) where

@@ -11,7 +11,6 @@ use Rattle.geometry.specs.declared.banks.Geometry.{Geometry}
 use Rattle.geometry.specs.Banks.{inRangeOf, bankWordsOf}
 use Rattle.sequence.specs.Sequence.{sequenceQuadOf}
 use Rattle.device.specs.Numbers.{NVMDATA0, plain}
-use Rattle.update.specs.declared.actions.Action.{Action}
 use Rattle.update.specs.declared.actions.Action.the-variants.{Store, Step}
 use Rattle.update.specs.Actions.{actionsOf, totalOf}
 use Rattle.reach.specs.declared.Difference.{Difference}

@@ -15,7 +15,7 @@ use Rattle.sequence.specs.Sequence.{sequenceQuadOf, sequenceIndexOf}
 use Rattle.sequence.specs.declared.comparison.Comparison.{Comparison}
 use Rattle.device.specs.declared.record.Device.{Device}
 use Rattle.device.specs.Record.{running}
-use Rattle.device.specs.State.{State, After, bankOf, state}
+use Rattle.device.specs.State.{State, After, bankOf}
 use Rattle.common_declines.specs.Possible.{possibleOf}
 use Rattle.flash.specs.Effect.{effectOf}
 use Rattle.start_up.specs.StartUp.{startUpOf}

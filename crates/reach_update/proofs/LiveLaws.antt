@@ -39,7 +39,7 @@ use Rattle.update.proofs.MoveLaws.{running-steps}
 use Rattle.reach_update.specs.Near.{withDataWords, NearDevice}
 use Rattle.reach_update.proofs.SameButLaws.{same-all}
 use Rattle.reach_update.proofs.DeviceLaws.{running-near, store-near}
-use Rattle.reach_update.proofs.PairLaws.{v, listed, few, after-p, after-q}
+use Rattle.reach_update.proofs.PairLaws.{listed, few, after-p, after-q}
 use Rattle.reach_update.proofs.TurnLaws.{first, second, Pair, next-p, next-q, action-p, action-q, allowed, Turned, turned}
 use Rattle.reach_update.proofs.TurnLaws.Turned.{both, neither}
 

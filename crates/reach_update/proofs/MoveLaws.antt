@@ -36,7 +36,7 @@ use Rattle.reach_update.proofs.PairLaws.{listed, few}
 use Rattle.reach_update.proofs.TurnLaws.{first, second, Pair, turn-pair}
 use Rattle.reach_update.proofs.LiveLaws.{step-or-store, Differs, Live, turn-live}
 
-pub near-same : (b : Bool) (i : ℕ) (t : State) → NearState b i t t
+near-same : (b : Bool) (i : ℕ) (t : State) → NearState b i t t
 near-same b i t = record { device = near-self (i % 4) (t .device); old-bank = refl; new-bank = same-self i _ }
 
 module _ (g : Geometry) (s : State) (image other : List ℕ) (i : ℕ) (update : Update g s image) (also : Update g s other)
@@ -120,7 +120,7 @@ module _ (g : Geometry) (s : State) (image other : List ℕ) (i : ℕ) (update :
               ∙ step-turn (second g s image other i update also same) q (pair .at-q) steps-q sram (ready .lent .room);
         }
 
-    pub step-together : Together least (stepOf g t sram .state) (stepOf g r sram .state)
+    step-together : Together least (stepOf g t sram .state) (stepOf g r sram .state)
     step-together = go (acceptedOf (stepAnswerOf g t sram)) refl (acceptedOf (stepAnswerOf g r sram)) refl
       where
         go : (a : Bool) → acceptedOf (stepAnswerOf g t sram) ≡ a → (b : Bool) → acceptedOf (stepAnswerOf g r sram) ≡ b
@@ -138,7 +138,7 @@ module _ (g : Geometry) (s : State) (image other : List ℕ) (i : ℕ) (update :
   run-together sram zero t r h = h
   run-together sram (suc n) t r h = run-together sram n (stepOf g t sram .state) (stepOf g r sram .state) (step-together sram t r h)
 
-  pub steps-together : {least : ℕ} (sram : List ℕ) (n : ℕ) (t r : State) → Together least t r
+  steps-together : {least : ℕ} (sram : List ℕ) (n : ℕ) (t r : State) → Together least t r
       → Together least (stepsOf g sram n t .state) (stepsOf g sram n r .state)
   steps-together sram n t r h = rw (steps-run g sram n t, steps-run g sram n r) (run-together sram n t r h)
 

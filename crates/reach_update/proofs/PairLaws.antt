@@ -48,7 +48,7 @@ Alike x (Store r form v) Step = ⊥
 Alike x Step (Store r form v) = ⊥
 Alike x Step Step = Unit {0}
 
-pub alike-self : (x : ℕ) (a : Action) → Alike x a a
+alike-self : (x : ℕ) (a : Action) → Alike x a a
 alike-self x (Store r form v) = (refl, refl, λ ne. refl)
 alike-self x Step = tt
 
@@ -147,7 +147,7 @@ module _ (g : Geometry) (s : State) (image other : List ℕ) (i : ℕ) (update :
         at (near .new-bank)
 
     module _ (on : running (p .state .device) ≡ true) where
-      pub on-q : running (q .state .device) ≡ true
+      on-q : running (q .state .device) ≡ true
       on-q = sym (running-near g listed x few (p .state .device) (q .state .device) (near .device)) ∙ on
 
       pub step-p : Stepping u (at-p .device) (at-p .new) (p .place)

@@ -62,7 +62,7 @@ module _ (g : Geometry) (r : RowState) (c : Call) where
       (λ q before. not-eq-not {b = false} .0 (λ h. f .first q before (known-can g r c (waiterAt r q) h)))
 
   -- else it gives none
-  pub queue-none : fromQueueOf known ≡ false → NoneWaiting g r c
+  queue-none : fromQueueOf known ≡ false → NoneWaiting g r c
   queue-none h room p inside can = true-not-false (sym (some-ready room p inside can) ∙ h)
 
   pub none-queue : NoneWaiting g r c → fromQueueOf known ≡ false

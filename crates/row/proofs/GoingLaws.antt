@@ -42,7 +42,7 @@ module _ (g : Geometry) (image : List ℕ) (p : Position) (h : Going g image p) 
         is = turns-append g image (at (h .start) 0) (h .srams) (sram ∷ []) ∙ ap (λ (p : Position). turnedOf g image p sram) (h .is);
       }
 
-  pub going-accepted : (sram : List ℕ) → length sram ≤ mostSram → acceptedOf (turnOf g (p .state) image sram (p .place) .decline) ≡ true
+  going-accepted : (sram : List ℕ) → length sram ≤ mostSram → acceptedOf (turnOf g (p .state) image sram (p .place) .decline) ≡ true
   going-accepted sram short =
       subst (λ (p : Position). acceptedOf (turnOf g (p .state) image sram (p .place) .decline) ≡ true) (h .is)
       (power-fail g image .answers (h .start) (h .update) (h .srams) sram short)

@@ -9,7 +9,7 @@ abbrev pub sumOf : (ℕ → ℕ) → ℕ → ℕ
 sumOf f zero = 0
 sumOf f (suc n) = sumOf f n + f n
 
-pub sum-same : (f h : ℕ → ℕ) (n : ℕ) → ((j : ℕ) → j < n → h j ≡ f j) → sumOf h n ≡ sumOf f n
+sum-same : (f h : ℕ → ℕ) (n : ℕ) → ((j : ℕ) → j < n → h j ≡ f j) → sumOf h n ≡ sumOf f n
 sum-same f h zero same = refl
 sum-same f h (suc n) same = rw (same n (omega arith), sum-same f h n (λ j l. same j (omega (arith, l)))) refl
 
@@ -28,7 +28,7 @@ sum-one-more f h x same more (suc n) l = go (ℕ-discrete n x) (sum-one-more f h
         omega (arith, before, here)
     go (no e) earlier = omega (arith, earlier (omega (arith, l, e)), same n e)
 
-pub sum-most : (f : ℕ → ℕ) (most n : ℕ) → ((j : ℕ) → j < n → f j ≤ most) → sumOf f n ≤ n * most
+sum-most : (f : ℕ → ℕ) (most n : ℕ) → ((j : ℕ) → j < n → f j ≤ most) → sumOf f n ≤ n * most
 sum-most f most zero all = omega arith
 sum-most f most (suc n) all =
     omega (arith, suc-mul n most, sum-most f most n (λ j l. all j (omega (arith, l))), all n (omega arith))

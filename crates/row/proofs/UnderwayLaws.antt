@@ -141,7 +141,7 @@ module _ (g : Geometry) (image : List ℕ) (r : RowState) (u : Underway g image 
       idle x on false e = e
       idle x on true e = true-not-false (sym on ∙ u .clear x e)
 
-  pub one-served : (j : ℕ) → j < length (r .signs) → (signAt (r .signs) j .place ≡ totalOf g → ⊥) → ServingCall g r c (servedOf (knownAt g r c))
+  one-served : (j : ℕ) → j < length (r .signs) → (signAt (r .signs) j .place ≡ totalOf g → ⊥) → ServingCall g r c (servedOf (knownAt g r c))
   one-served j l unfinished =
       let inside = somebody-served (knownAt g r c) (u .judged .last-below) sound j l (can-so j l unfinished) one-runs in
       serving-call g r c accepted (lt-ltb (servedOf (knownAt g r c)) (length (r .signs)) inside)

@@ -24,7 +24,7 @@ pub record Sound (waiting : List ℕ) (n : ℕ) : Type 0 where
   pub apart : (p q : ℕ) → p < q → q < length waiting → getD waiting p 0 ≡ getD waiting q 0 → ⊥
 
 -- a record stands at one place only
-pub one-place : (l : List ℕ) (n p q : ℕ) → Sound l n → p < length l → q < length l → getD l p 0 ≡ getD l q 0 → p ≡ q
+one-place : (l : List ℕ) (n p q : ℕ) → Sound l n → p < length l → q < length l → getD l p 0 ≡ getD l q 0 → p ≡ q
 one-place l n p q s a b e = go (decLt p q) (decLt q p)
   where
     go : Dec (p < q) → Dec (q < p) → p ≡ q
@@ -34,7 +34,7 @@ one-place l n p q s a b e = go (decLt p q) (decLt q p)
 
 -- ---- one leaves
 
-pub left-sound : (l : List ℕ) (n m i : ℕ) → Sound l n → i < length l → ((p : ℕ) → p < length l → (p ≡ i → ⊥) → getD l p 0 < m) → Sound (leftOf l i) m
+left-sound : (l : List ℕ) (n m i : ℕ) → Sound l n → i < length l → ((p : ℕ) → p < length l → (p ≡ i → ⊥) → getD l p 0 < m) → Sound (leftOf l i) m
 left-sound l n m i s inside rest =
     record {
       below = λ p h. rw (left-at l i inside p) (rest (placeOf i p) (omega (arith, left-one-fewer l i inside)) (omega arith));
@@ -101,16 +101,16 @@ module _ (l m : List ℕ) (n : ℕ) (s : Sound l n) (t : Sound m n)
           t .apart (p - length l) (q - length l) (omega arith) (omega (arith, longer))
           (sym (after-seam l m p (omega arith)) ∙ e ∙ after-seam l m q (omega arith))
 
-  pub joined-sound : Sound (l ++ m) n
+  joined-sound : Sound (l ++ m) n
   joined-sound = record { below = joined-below; apart = joined-apart }
 
-pub records-sound : (p : ℕ → Bool) (n : ℕ) → Sound (recordsOf p n) n
+records-sound : (p : ℕ → Bool) (n : ℕ) → Sound (recordsOf p n) n
 records-sound p n =
     let r = records-rising p n in
     record { below = r .below; apart = λ i j less inside e. let up = r .rising i j less inside in omega (arith, up, e) }
 
 -- those that don't wait join
-pub begin-sound : (l : List ℕ) (p : ℕ → Bool) (n : ℕ) → Sound l n → ((j : ℕ) → p j ≡ true → waitsOf l j ≡ false) → Sound (l ++ recordsOf p n) n
+begin-sound : (l : List ℕ) (p : ℕ → Bool) (n : ℕ) → Sound l n → ((j : ℕ) → p j ≡ true → waitsOf l j ≡ false) → Sound (l ++ recordsOf p n) n
 begin-sound l p n s new =
     joined-sound l (recordsOf p n) n s (records-sound p n)
     (λ i j inside h e. not-waits l (getD (recordsOf p n) j 0) i (new (getD (recordsOf p n) j 0) (records-rising p n .holds j h)) inside e)

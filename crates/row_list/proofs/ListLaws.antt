@@ -16,7 +16,7 @@ abbrev pub pastEnd : Sign
 pastEnd = signAt [] 0
 
 -- a row has 32 records
-pub length-gathered : (xs : List Sign) (n : ℕ) → length (gathered xs n .signs) ≡ 32
+length-gathered : (xs : List Sign) (n : ℕ) → length (gathered xs n .signs) ≡ 32
 length-gathered xs zero = length-replicate 32 noSign
 length-gathered xs (suc n) = length-set (gathered xs n .signs) n (signAt xs n) ∙ length-gathered xs n
 

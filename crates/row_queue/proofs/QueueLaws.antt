@@ -21,7 +21,7 @@ left-length l p = omega (arith, length-append (take p l) (drop (p + 1) l), lengt
 
 module _ (l : List ℕ) (x p : ℕ) where
   -- an entry after it, or before it, stays
-  pub left-kept : (length l ≡ p → ⊥) → leftOf (l ++ (x ∷ [])) p ≡ leftOf l p ++ (x ∷ [])
+  left-kept : (length l ≡ p → ⊥) → leftOf (l ++ (x ∷ [])) p ≡ leftOf l p ++ (x ∷ [])
   left-kept other = go (decLt (length l) p)
     where
       longer : length (l ++ (x ∷ [])) ≡ length l + 1
@@ -44,7 +44,7 @@ module _ (l : List ℕ) (x p : ℕ) where
           ) (sym (append-assoc (take p l) (drop (p + 1) l) (x ∷ [])))
 
   -- it leaves
-  pub left-out : length l ≡ p → leftOf (l ++ (x ∷ [])) p ≡ leftOf l p
+  left-out : length l ≡ p → leftOf (l ++ (x ∷ [])) p ≡ leftOf l p
   left-out e =
       rw (
         take-at l (x ∷ []) p e,

@@ -38,7 +38,7 @@ entry-is numbers (suc n) p l = go (decLt p n) (entry-is numbers n p)
         ∙ ap (λ (k : ℕ). getD numbers k 0) same
 
 -- tests that agree below n
-pub any-same : (p q : ℕ → Bool) (n : ℕ) → ((k : ℕ) → k < n → p k ≡ q k) → anyBelow p n ≡ anyBelow q n
+any-same : (p q : ℕ → Bool) (n : ℕ) → ((k : ℕ) → k < n → p k ≡ q k) → anyBelow p n ≡ anyBelow q n
 any-same p q zero same = refl
 any-same p q (suc n) same = rw (any-same p q n (λ k l. same k (omega (arith, l))), same n (omega arith)) refl
 

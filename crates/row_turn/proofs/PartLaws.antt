@@ -25,7 +25,7 @@ pub cancel : (a n : ℕ) → (a + n) - a ≡ n
 cancel a n = omega arith
 
 -- an effect over two banks
-abbrev pub EffectOn : Geometry → List ℕ → List ℕ → Sign → TurnEffect → List ℕ → List ℕ → Type 0
+abbrev EffectOn : Geometry → List ℕ → List ℕ → Sign → TurnEffect → List ℕ → List ℕ → Type 0
 EffectOn g image sram s e one two =
     (effectedOf (state (s .device) one two) e ≡ turnOf g (state (s .device) one two) image sram (s .place)) × Fits one two (e .write)
 
@@ -45,7 +45,7 @@ sets-is : (l : List ℕ) (i : ℕ) (vs : List ℕ) → i + length vs ≤ length 
 sets-is l i vs h = sets-eq vs l i h ∙ append-assoc (take i l) vs (drop (i + length vs) l)
 
 -- a part set where it is
-pub part-same : (store : List ℕ) (a n : ℕ) → a + n ≤ length store → sets store a (partOf store a n) ≡ store
+part-same : (store : List ℕ) (a n : ℕ) → a + n ≤ length store → sets store a (partOf store a n) ≡ store
 part-same store a n h =
     sets-is store a (partOf store a n) (omega (arith, part-length store a n h, h))
     ∙ ap (λ (m : ℕ). take a store ++ (partOf store a n ++ drop (a + m) store)) (part-length store a n h)
@@ -80,7 +80,7 @@ part-set store a n vs e h =
     ∙ take-at vs (drop (a + length vs) store) n e
 
 -- a part changed in its place
-pub mid-sets : (store : List ℕ) (a n : ℕ) (vs : List ℕ) → length vs ≡ n → a + n ≤ length store → putMid a n store vs ≡ sets store a vs
+mid-sets : (store : List ℕ) (a n : ℕ) (vs : List ℕ) → length vs ≡ n → a + n ≤ length store → putMid a n store vs ≡ sets store a vs
 mid-sets store a n vs e h =
     ap (λ (l : List ℕ). take a store ++ (vs ++ l)) (drop-drop n a store ∙ ap (λ (m : ℕ). drop (a + m) store) (sym e))
     ∙ sym (sets-is store a vs (omega (arith, e, h)))

@@ -40,7 +40,7 @@ neither-declines g sram s script = go (acceptedOf common) refl (isScriptOf scrip
     go true ea false eb h = absurd (true-not-false (sym (simp (ea, eb) at h)))
 
 -- so it begins with a possible device over banks of the geometry's length
-pub accepted-sound : (g : Geometry) (sram : List ℕ) (s : State) (script : List ℕ) → acceptedOf (declineOf g sram s script) ≡ true
+accepted-sound : (g : Geometry) (sram : List ℕ) (s : State) (script : List ℕ) → acceptedOf (declineOf g sram s script) ≡ true
     → (inRangeOf g ≡ true) × (length sram ≤ 16384) × Sound g s × (isScriptOf script ≡ true)
 accepted-sound g sram s script h =
     let (opened, known) = neither-declines g sram s script h in

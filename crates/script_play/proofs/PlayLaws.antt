@@ -8,7 +8,6 @@ use native.Mathlib.Decide.{decLe}
 use mathlib.Core.List.{List, _++_}
 use lib.ListN.{length, length-append}
 use lib.Seq.{sets}
-use Rattle.words.proofs.BitLaws.{true-not-false}
 use Rattle.geometry.specs.declared.banks.Geometry.{Geometry}
 use Rattle.words.specs.declared.decline.Decline.{Decline}
 use Rattle.words.specs.Decline.{numberOf, acceptedOf}
@@ -34,17 +33,6 @@ lines-length g sram s script (suc n) =
       lines-length g sram s script n,
       line-length n (numberOf (a .decline)) (a .state .device .nvmcon .0) (a .event) (record-digit g sram (stateOf g sram s script n) (recordOf script n)),
     )
-
--- the answer 0 always means that the script was played
-pub accepted-played : (g : Geometry) (sram : List ℕ) (s : State) (script buffer : List ℕ) → acceptedOf (playOf g sram s script buffer .decline) ≡ true
-    → playOf g sram s script buffer ≡ playedOf g sram s script buffer
-unfolding playOf
-accepted-played g sram s script buffer = go (acceptedOf (declineOf g sram s script)) refl
-  where
-    go : (t : Bool) → acceptedOf (declineOf g sram s script) ≡ t → acceptedOf (playOf g sram s script buffer .decline) ≡ true
-        → playOf g sram s script buffer ≡ playedOf g sram s script buffer
-    go true e h = rw e
-    go false e h = absurd (true-not-false (sym (rw e at h) ∙ e))
 
 -- the answer and the bytes of a play are the same whatever its buffer, so that `play_length` gives them beforehand
 pub play-length : (g : Geometry) (sram : List ℕ) (s : State) (script buffer : List ℕ)

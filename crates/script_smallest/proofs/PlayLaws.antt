@@ -28,7 +28,7 @@ module _ (g : Geometry) (sram : List ℕ) where
 
   module _ (s : State) where
     -- plays of the same records
-    pub same-state : (y z : List ℕ) (k : ℕ) → ((j : ℕ) → j < k → recordOf y j ≡ recordOf z j) → stateOf g sram s y k ≡ stateOf g sram s z k
+    same-state : (y z : List ℕ) (k : ℕ) → ((j : ℕ) → j < k → recordOf y j ≡ recordOf z j) → stateOf g sram s y k ≡ stateOf g sram s z k
     same-state y z zero same = refl
     same-state y z (suc k) same =
         ap (λ (t : State). recordAfterOf g sram t (recordOf y k) .state) (same-state y z k (λ j l. same j (omega (arith, l))))

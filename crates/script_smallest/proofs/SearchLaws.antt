@@ -1,5 +1,5 @@
 -- The search as a whole: what is known before it, its first play, and what it leaves. Assumes nothing.
-use Prim.Native.Nat.{ℕ, zero, suc, _+_, _*_, _-_, _%_, _≤_}
+use Prim.Native.Nat.{ℕ, zero, suc, _+_, _*_, _%_, _≤_}
 use mathlib.Core.Path.{_≡_, refl, sym, ap, _∙_}
 use mathlib.Core.Bool.{Bool, true, false}
 use mathlib.Core.List.{List, [], _∷_, _++_, append-nil}
@@ -62,7 +62,7 @@ opened g s sram script scratch1 scratch2 result h =
 -- ---- the first play
 
 -- without a record past the last it is the script's
-pub first-play : (x : List ℕ) → length x % 8 ≡ 0 → take (8 * recordsOf x) (withoutOf x (recordsOf x)) ≡ x
+first-play : (x : List ℕ) → length x % 8 ≡ 0 → take (8 * recordsOf x) (withoutOf x (recordsOf x)) ≡ x
 first-play x e =
     take-at (take (8 * recordsOf x) x) (drop (8 * recordsOf x + 8) x) (8 * recordsOf x) (length-take-le (8 * recordsOf x) x (omega (arith, e)))
     ∙ take-all (8 * recordsOf x) x (omega (arith, e))

@@ -45,7 +45,7 @@ replicate-next zero x = refl
 replicate-next (suc n) x = ap (λ l. x ∷ l) (replicate-next n x)
 
 module _ (sram : List ℕ) (short : length sram ≤ 16384) where
-  pub all-short : (n i : ℕ) → length (getD (replicate n sram) i []) ≤ 16384
+  all-short : (n i : ℕ) → length (getD (replicate n sram) i []) ≤ 16384
   all-short zero zero = omega arith
   all-short zero (suc i) = omega arith
   all-short (suc n) zero = short
@@ -61,7 +61,7 @@ module _ (sram : List ℕ) (short : length sram ≤ 16384) where
     abbrev script : List ℕ
     script = recordBytesOf actions
 
-    pub fits : AllFit actions
+    fits : AllFit actions
     fits i m =
         let l : i < totalOf g = omega (arith, actions-total g image w) in
         rw (sym (action-listed g image w i l))
@@ -71,7 +71,7 @@ module _ (sram : List ℕ) (short : length sram ≤ 16384) where
     abbrev turns : ℕ → List (List ℕ)
     turns n = replicate n sram
 
-    pub turns-count : (n : ℕ) → n ≤ totalOf g → placeAfter g s image (turns n) ≡ n
+    turns-count : (n : ℕ) → n ≤ totalOf g → placeAfter g s image (turns n) ≡ n
     turns-count n l =
         let count : length (turns n) ≡ n = length-replicate n sram in
         turns-place g s image update (turns n) (all-short n) (omega arith) ∙ count
@@ -102,7 +102,7 @@ module _ (sram : List ℕ) (short : length sram ≤ 16384) where
           record-read actions fits n m ∙ ap recorded (sym (action-listed g image w n l))
 
     -- after n records stands what n turns leave
-    pub played : (n : ℕ) → n ≤ totalOf g → stateOf g sram s script n ≡ afterTurns g s image (turns n)
+    played : (n : ℕ) → n ≤ totalOf g → stateOf g sram s script n ≡ afterTurns g s image (turns n)
     played zero l = refl
     played (suc n) l =
         let m : n < totalOf g = omega arith in
@@ -184,7 +184,7 @@ module _ (sram : List ℕ) (short : length sram ≤ 16384) where
         rw (played (totalOf g) most, played n l) (power-fail g image .claims s update (turns (totalOf g)) (turns n) (turns-count (totalOf g) most))
 
     module _ (n : ℕ) (l : n ≤ totalOf g) (c : Cut) where
-      abbrev pub cut : State
+      abbrev cut : State
       cut = restarted g (stateOf g sram s script n) c
 
       -- where the old bank runs again its sequence word is the same

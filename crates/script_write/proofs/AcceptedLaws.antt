@@ -25,7 +25,7 @@ pub record Sized (g : Geometry) (s : State) (image : List ℕ) : Type 0 where
   pub other : length (s .two) ≡ bankWordsOf g
   pub long : length image ≡ bankWordsOf g
 
-pub sized : (g : Geometry) (s : State) (image : List ℕ) → acceptedOf (startOf g s image .decline) ≡ true → Sized g s image
+sized : (g : Geometry) (s : State) (image : List ℕ) → acceptedOf (startOf g s image .decline) ≡ true → Sized g s image
 sized g s image h =
     let started = starts g s image h in
     record { range = in-range g (started .listed); first = started .sound .first; other = started .sound .other; long = started .image-long }

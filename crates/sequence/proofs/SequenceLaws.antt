@@ -5,7 +5,6 @@ use mathlib.Core.Bool.{Bool, true, false, not}
 use Prim.Native.Nat.{ℕ, _+_, _-_, _*_, _/_, _%_, _^_, _≤_, _<_}
 use native.Mathlib.Nat.{mod-eq-of-lt, mul-le-mul}
 use native.Mathlib.Omega.{arith}
-use lib.Dec.{eqb}
 use lib.Arith.{digits-div, digits-mod, mul-pred}
 use lib.Bits.{xor-lt, xor-add-and, and-mask}
 use borrow.Author.Tests.{eq-eqb, eqb-true}
@@ -51,15 +50,15 @@ bits-valid w h each =
 
 -- ---- the word of T
 module _ (t : ℕ) (h : t < 65536) where
-  pub word-tseq : tseqOf (sequenceWordOf t) ≡ t
+  word-tseq : tseqOf (sequenceWordOf t) ≡ t
   unfolding sequenceWordOf
   word-tseq = digits-mod (complementOf t) h
 
-  pub word-cseq : cseqOf (sequenceWordOf t) ≡ complementOf t
+  word-cseq : cseqOf (sequenceWordOf t) ≡ complementOf t
   unfolding sequenceWordOf
   word-cseq = digits-div (complementOf t) h
 
-  pub word-valid : validOf (sequenceWordOf t) ≡ true
+  word-valid : validOf (sequenceWordOf t) ≡ true
   unfolding validOf
   word-valid = rw (word-tseq, word-cseq) (eq-eqb (complementOf t) (complementOf t) refl)
 

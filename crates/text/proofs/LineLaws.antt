@@ -14,7 +14,7 @@ use Rattle.text.specs.Lines.{blank, lineFeed, columnOf, decimalOf, flagO
 use Rattle.text.proofs.BufferLaws.{sets-append, sets-after}
 use Rattle.text.proofs.DigitLaws.{digits-length, width-one, width-at-most}
 
-pub column-length : (base n k end : ℕ) → length (columnOf base n k end) ≡ k + 1
+column-length : (base n k end : ℕ) → length (columnOf base n k end) ≡ k + 1
 column-length base n k end = rw (length-append (digitsOf base n k) (end ∷ []), digits-length base n k)
 
 -- digits, and then the byte that ends them

@@ -95,7 +95,7 @@ module _ (g : Geometry) (ok : InRange g) where
   both-parts : bankQuadsOf g ≡ bootQuadsOf g + programQuadsOf g
   both-parts = omega arith
 
-  pub word-count : bankWordsOf g ≡ 4 * bankQuadsOf g
+  word-count : bankWordsOf g ≡ 4 * bankQuadsOf g
   word-count = omega arith
 
   pub some-quads : 0 < bankQuadsOf g
@@ -134,7 +134,7 @@ module _ (g : Geometry) (ok : InRange g) where
   unfolding erasedQuadOf
   page-quad i k h = rw (digits-div i h, digits-mod i h)
 
-  pub erased-below : (x : ℕ) → x < bankQuadsOf g → erasedQuadOf g x < bankQuadsOf g
+  erased-below : (x : ℕ) → x < bankQuadsOf g → erasedQuadOf g x < bankQuadsOf g
   unfolding erasedQuadOf
   erased-below x h = digits-lt (page-below (x / pageQuadsOf g) (div-lt-iff-lt-mul page-pos .1 h)) (mod-lt x page-pos)
 
@@ -191,7 +191,7 @@ module _ (g : Geometry) (ok : InRange g) where
   pub sequence-last : (x : ℕ) → suc x ≡ bankQuadsOf g → programmedQuadOf g x ≡ sequenceQuadOf g
   sequence-last x e = omega (arith, boot-quad x (omega (arith, both-parts, some-boot)), both-parts, some-boot)
 
-  pub sequence-below : sequenceQuadOf g < bankQuadsOf g
+  sequence-below : sequenceQuadOf g < bankQuadsOf g
   sequence-below = omega (arith, both-parts, some-boot)
 
   module _ (bank : List ℕ) (long : length bank ≡ bankWordsOf g) where
@@ -205,7 +205,7 @@ module _ (g : Geometry) (ok : InRange g) where
         go (no e) (yes d) = absurd (e (ap (erasedQuadOf g) d))
         go (no e) (no d) = other-quad bank (erasedQuadOf g x) blankQuad (erasedQuadOf g y) e ∙ erased y (omega arith)
 
-    pub erased-all : Erased g bank (bankQuadsOf g) → (j : ℕ) → j < bankQuadsOf g → quadAt bank j ≡ blankQuad
+    erased-all : Erased g bank (bankQuadsOf g) → (j : ℕ) → j < bankQuadsOf g → quadAt bank j ≡ blankQuad
     erased-all erased j h = let met = quad-met j h in ap (quadAt bank) (sym (met .2)) ∙ erased (met .0) (met .1)
 
     -- the programming begins

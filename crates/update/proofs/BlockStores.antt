@@ -49,7 +49,7 @@ blank-small = below-four _ (lit< tt) (lit< tt) (lit< tt) (lit< tt)
 pub quad-small : (l : List ℕ) (j : ℕ) → Words l → SmallQuad (quadAt l j)
 quad-small l j words = below-four _ (words (4 * j)) (words (4 * j + 1)) (words (4 * j + 2)) (words (4 * j + 3))
 
-pub next-small : (w : ℕ) → SmallQuad (nextSequenceOf w)
+next-small : (w : ℕ) → SmallQuad (nextSequenceOf w)
 unfolding nextSequenceOf
 next-small w = below-four _ (next-word w) (lit< tt) (lit< tt) (lit< tt)
 

@@ -205,7 +205,7 @@ module _ (u : Fixed) where
       go (inr none) bank = torn-none i has new long bank mask none
 
   -- a cut before the last step, or in it with no bit torn
-  abbrev pub Early : ℕ → Cut → Type 0
+  abbrev Early : ℕ → Cut → Type 0
   Early place c = (place + 2 < totalOf g) ⊎ ((place + 1 < totalOf g) × (wordAt (c .mask) 0 ≡ 0))
 
   -- ---- the state after a reset that is not declined, at a place, of a device d before it

@@ -151,9 +151,6 @@ filled (_ ∷ _ ∷ _ ∷ []) a b c d e = absurd (omega arith)
 filled (_ ∷ _ ∷ _ ∷ _ ∷ []) a b c d e = refl
 filled (_ ∷ _ ∷ _ ∷ _ ∷ _ ∷ l) a b c d e = absurd (omega arith)
 
-pub quiet-plain : (r v : ℕ) → eqb r 0 ≡ false → hasFormOf r 0 ≡ true → v < 2 ^ 32 → NoLaunch (access r 0 v)
-quiet-plain r v other ok l = record { form = ok; word = l; off = rw other }
-
 module _ (g : Geometry) (b : Bool) (d : Device) (at : Between g b d) where
   address-rest : (a : ℕ) → a < 2 ^ 32 → AtRest g (withAddress d a)
   unfolding hasFormOf
@@ -268,7 +265,7 @@ upper-lock c on =
 abbrev pub clearedDevice : Bool → Device → Device
 clearedDevice b d = withCon d (enabledCon b 0) 0 (d .step)
 
-abbrev pub readyDevice : Bool → Device → Device
+abbrev readyDevice : Bool → Device → Device
 readyDevice b d = withBwp (withCon d (restCon b 0) 3 (d .step)) (clearOf (d .nvmbwp .0) 0x1F)
 
 module _ (g : Geometry) (b : Bool) (d : Device) (rest : AtRest g d) (boot : bfswap d ≡ b) (program : pfswap d ≡ b) where

@@ -103,7 +103,7 @@ module _ (g : Geometry) (image : List ℕ) (tries : Tries g image) where
         let (boot, program) = new-runs t next C end powerOn ok-again .0 in
         (boot ∙ ap not (lower .0), program ∙ ap not (lower .0))
 
-    pub ends-same : SameBanks (afterTurns g s image A) (afterTurns g t image C)
+    ends-same : SameBanks (afterTurns g s image A) (afterTurns g t image C)
     ends-same =
         let from-s = subst (AfterTries g s image) ends-at (tries .after s update (oneTry B c ∷ oneTry C powerOn ∷ []) [] two) .as-uncut runs A done in
         let from-t = one t next C powerOn ok-again .as-uncut (new-runs t next C end powerOn ok-again .0) C end in

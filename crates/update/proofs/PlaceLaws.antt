@@ -51,7 +51,7 @@ module _ (g : Geometry) (image : List ℕ) (w : ℕ) where
   early-action v place l = rw (lt-ltb place (programmingFrom g) l)
 
 -- ---- a place by division, as the code finds it
-pub shifted : {A : Type 0} (x : A) (l : List A) (d : A) (k : ℕ) → 0 < k → getD l (k - 1) d ≡ getD (x ∷ l) k d
+shifted : {A : Type 0} (x : A) (l : List A) (d : A) (k : ℕ) → 0 < k → getD l (k - 1) d ≡ getD (x ∷ l) k d
 shifted x l d zero h = absurd (not-suc-le-zero h)
 shifted x l d (suc k) h = let e : suc k - 1 ≡ k = omega arith in rw e
 

@@ -1,5 +1,5 @@
 -- Turns with a probe's reads between them stand where the turns alone stand, so power-fail safety is theirs. Assumes nothing.
-use mathlib.Core.Path.{_≡_, refl, sym, ap, _∙_}
+use mathlib.Core.Path.{_≡_, refl, ap, _∙_}
 use mathlib.Core.Bool.{true}
 use mathlib.Core.List.{List, [], _∷_}
 use Prim.Native.Nat.{ℕ}
@@ -20,7 +20,7 @@ use Rattle.update.proofs.StartLaws.{startFixed, start-stands}
 use Rattle.update.proofs.PowerFail.{power-fail}
 
 module _ (g : Geometry) (image : List ℕ) where
-  pub beside-turns : (p : Position) (l : List Beside) → Polled g image p l → besideOf g image p l ≡ turnsOf g image p (turnsAlone l)
+  beside-turns : (p : Position) (l : List Beside) → Polled g image p l → besideOf g image p l ≡ turnsOf g image p (turnsAlone l)
   beside-turns p [] h = refl
   beside-turns p (turn sram ∷ rest) h = beside-turns (turnedOf g image p sram) rest h
   beside-turns p (read r ∷ rest) (low, h) =

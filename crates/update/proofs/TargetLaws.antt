@@ -27,7 +27,7 @@ use Rattle.flash.specs.Effect.{stepAtOf, stepLocationOf, blockedOf, effect, eff
 use Rattle.update.specs.Actions.{upperAddressOf, bankQuadsOf}
 
 -- where quad j of a bank stands on the upper side
-unfoldable pub upperPlaceOf : Geometry → ℕ → Location
+upperPlaceOf : Geometry → ℕ → Location
 upperPlaceOf g j = pick (ltb j (bootQuadsOf g)) (located false true (16 * j)) (located true true (16 * (j - bootQuadsOf g)))
 
 -- no boot page of the upper alias is protected: UBWP is 0
@@ -53,7 +53,7 @@ module _ (g : Geometry) (ok : InRange g) where
   address-word j h =
       by-kind (λ (a : ℕ) (l : Location). a < 2 ^ 32) j (λ k. omega (arith, ok .boot-high)) (λ k. omega (arith, ok .program-high))
 
-  pub place-quad : (j : ℕ) → quadIndexOf g (upperPlaceOf g j) ≡ j
+  place-quad : (j : ℕ) → quadIndexOf g (upperPlaceOf g j) ≡ j
   place-quad j = by-kind (λ (a : ℕ) (l : Location). quadIndexOf g l ≡ j) j (λ k. omega arith) (λ k. omega arith)
 
   -- ---- an address whose offset is a number of units is not rounded
@@ -69,7 +69,7 @@ module _ (g : Geometry) (ok : InRange g) where
       ∙ ap (λ (l : Location). located (l .program) (l .upper) (roundDownOf (l .offset) u)) found
       ∙ ap (located program true) kept
 
-  pub quad-target : (j : ℕ) → j < bankQuadsOf g → targetOf g 2 (upperAddressOf g j) ≡ upperPlaceOf g j
+  quad-target : (j : ℕ) → j < bankQuadsOf g → targetOf g 2 (upperAddressOf g j) ≡ upperPlaceOf g j
   unfolding unitOf
   quad-target j h =
       by-kind (λ (a : ℕ) (l : Location). targetOf g 2 a ≡ l) j
@@ -87,7 +87,7 @@ module _ (g : Geometry) (ok : InRange g) where
   past-boot : (p : ℕ) → bootQuadsOf g ≤ p * pageQuadsOf g → p ≡ g .b + (p - g .b)
   past-boot p k = let low : g .b ≤ p = le-of-mul-le-mul-right k quads-pos in omega arith
 
-  pub page-target : (p : ℕ) → p < pagesOf g → targetOf g 4 (upperAddressOf g (p * pageQuadsOf g)) ≡ upperPlaceOf g (p * pageQuadsOf g)
+  page-target : (p : ℕ) → p < pagesOf g → targetOf g 4 (upperAddressOf g (p * pageQuadsOf g)) ≡ upperPlaceOf g (p * pageQuadsOf g)
   unfolding unitOf
   page-target p h =
       by-kind (λ (a : ℕ) (l : Location). targetOf g 4 a ≡ l) j

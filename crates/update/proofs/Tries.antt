@@ -12,7 +12,7 @@ use Rattle.words.specs.Quad.{wordAt, putQuad}
 use Rattle.words.specs.Decline.{acceptedOf}
 use Rattle.geometry.specs.declared.banks.Geometry.{Geometry}
 use Rattle.sequence.specs.Sequence.{sequenceQuadOf, sequenceIndexOf, nextSequenceOf}
-use Rattle.device.specs.State.{State, state, bankOf}
+use Rattle.device.specs.State.{State, bankOf}
 use Rattle.start_up.specs.StartUp.{Access, startUpStores, startUpOf}
 use Rattle.controller.specs.Controller.{Operation, storeOperations, AllAccepted, Keeps}
 use Rattle.controller.proofs.StartUpLaws.{cut-stores-run}

@@ -9,7 +9,7 @@ use Rattle.words.specs.Decline.{acceptedOf}
 use Rattle.geometry.specs.declared.banks.Geometry.{Geometry}
 use Rattle.geometry.specs.Banks.{bankWordsOf}
 use Rattle.device.specs.Record.{running}
-use Rattle.device.specs.State.{State, state, bankOf}
+use Rattle.device.specs.State.{State, bankOf}
 use Rattle.start_up.specs.StartUp.{storesOf, startUpStores}
 use Rattle.controller.specs.Controller.{Operation, Sound}
 use Rattle.controller.proofs.Controller.{controller}
@@ -36,7 +36,7 @@ module _ (u : Fixed) where
 
   -- ---- a sign at rest
   module _ (t : State) (r : Rested u t) where
-    pub rested-idle : running (t .device) ≡ false
+    rested-idle : running (t .device) ≡ false
     rested-idle = ap (λ (s : State). running (s .device)) (r .state) ∙ r .wakes .rest .idle
 
     pub rested-sound : Sound g t
@@ -45,7 +45,7 @@ module _ (u : Fixed) where
         (let (one, two) = both-placed (λ (l : List ℕ). length l ≡ bankWordsOf g) b old (r .new) old-long (r .long) in
         record { possible = r .wakes .rest .possible; first = one; other = two })
 
-    pub rested-new : r .new ≡ bankOf t (not b)
+    rested-new : r .new ≡ bankOf t (not b)
     rested-new = sym (ap (λ (s : State). bankOf s (not b)) (r .state) ∙ bank-new b (r .device) old (r .new))
 
     -- a reset of it, declined or not
@@ -87,7 +87,7 @@ module _ (u : Fixed) where
         done : cutStoresOf g (r .device) n ≡ storesOf g (r .device) (take n (startUpStores (r .device)))
         done = rw (waking-answers g (chosen u (r .new)) (r .device) (r .wakes))
 
-    pub interruption-rests : (i : Interruption) → Rested u (interruptedOf g t i)
+    interruption-rests : (i : Interruption) → Rested u (interruptedOf g t i)
     interruption-rests (reset c) = reset-rests c
     interruption-rests (startUp n) = stores-rest n
 
@@ -96,11 +96,11 @@ module _ (u : Fixed) where
     interruption-keeps (reset c) = reset-idle g t c rested-idle
     interruption-keeps (startUp n) = (refl, refl)
 
-  pub interruptions-rest : (t : State) → Rested u t → (l : List Interruption) → Rested u (interruptionsOf g t l)
+  interruptions-rest : (t : State) → Rested u t → (l : List Interruption) → Rested u (interruptionsOf g t l)
   interruptions-rest t r [] = r
   interruptions-rest t r (i ∷ l) = interruptions-rest (interruptedOf g t i) (interruption-rests t r i) l
 
-  pub interruptions-keep : (t : State) → Rested u t → (l : List Interruption) → SameBanks t (interruptionsOf g t l)
+  interruptions-keep : (t : State) → Rested u t → (l : List Interruption) → SameBanks t (interruptionsOf g t l)
   interruptions-keep t r [] = (refl, refl)
   interruptions-keep t r (i ∷ l) =
       let first = interruption-keeps t r i in

@@ -55,7 +55,7 @@ module _ (g : Geometry) (s : State) (image sram : List ℕ) (place : ℕ) where
   lengths = length (s .one) ∷ length (s .two) ∷ length image ∷ []
 
   -- the turn that performs its action
-  abbrev pub performing : Turning
+  abbrev performing : Turning
   performing = performed place (performOf g s sram (nextActionOf g s image place))
 
   abbrev Accepts : Type 0

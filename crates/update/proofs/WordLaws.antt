@@ -22,12 +22,12 @@ use Rattle.sequence.proofs.ComparisonLaws.{both-valid, only-first, only-second}
 use Rattle.update.specs.Start.{clashOf}
 
 -- no bit falls
-abbrev pub Rises : ℕ → ℕ → Type 0
+abbrev Rises : ℕ → ℕ → Type 0
 Rises a b = (k : ℕ) → bit k a ≡ true → bit k b ≡ true
 
 -- ---- tearing
 -- all ones has every 1 of a word
-pub ones-rise : (w : ℕ) → w < 2 ^ 32 → Rises w allOnes
+ones-rise : (w : ℕ) → w < 2 ^ 32 → Rises w allOnes
 ones-rise w h k e = go (decLe 32 k)
   where
     go : Dec (32 ≤ k) → bit k allOnes ≡ true
@@ -38,7 +38,7 @@ ones-rise w h k e = go (decLe 32 k)
 pub erase-rises : (mask w : ℕ) → w < 2 ^ 32 → Rises w (mergeOf mask allOnes w)
 erase-rises mask w h k e = merge-bit k mask allOnes w ∙ pick-both (λ t. t ≡ true) (bit k mask) (ones-rise w h k e) e
 
-pub program-rises : (mask v : ℕ) → v < 2 ^ 32 → Rises v (mergeOf mask v allOnes)
+program-rises : (mask v : ℕ) → v < 2 ^ 32 → Rises v (mergeOf mask v allOnes)
 program-rises mask v h k e = merge-bit k mask v allOnes ∙ pick-both (λ t. t ≡ true) (bit k mask) e (ones-rise v h k e)
 
 -- a merge of two words is a word, whatever the mask
@@ -46,14 +46,14 @@ pub merge-word : (mask a b : ℕ) → a < 2 ^ 32 → b < 2 ^ 32 → mergeOf mask
 merge-word mask a b ha hb =
     xor-lt 32 (bitAnd (bitXor a b) mask) b (omega (arith, and-le-l (bitXor a b) mask, xor-lt 32 a b ha hb)) hb
 
-pub merge-ones : (mask : ℕ) → mergeOf mask allOnes allOnes ≡ allOnes
+merge-ones : (mask : ℕ) → mergeOf mask allOnes allOnes ≡ allOnes
 merge-ones mask = equal-by-bits _ _ (λ k. merge-bit k mask allOnes allOnes ∙ pick-same (bit k mask) (bit k allOnes))
 
 -- ---- a bit position at 1 in both halves
 halves-bit : (w k : ℕ) → k < 16 → bit k (bitAnd (tseqOf w) (cseqOf w)) ≡ (bit k w && bit (16 + k) w)
 halves-bit w k l = bit-and k (tseqOf w) (cseqOf w) ∙ rw (bit-low 16 k w l, bit-high 16 k w)
 
-pub clash-bits : (w : ℕ) → clashOf w ≡ false → (k : ℕ) → k < 16 → (bit k w && bit (16 + k) w) ≡ false
+clash-bits : (w : ℕ) → clashOf w ≡ false → (k : ℕ) → k < 16 → (bit k w && bit (16 + k) w) ≡ false
 unfolding clashOf
 clash-bits w h k l = sym (halves-bit w k l) ∙ ap (bit k) (eqb-true _ 0 (not-false _ h)) ∙ bit-zero k
 
@@ -65,14 +65,7 @@ no-clash w each =
     (equal-below 16 (bitAnd (tseqOf w) (cseqOf w)) 0 (omega (arith, and-le-l (tseqOf w) (cseqOf w))) (omega arith)
     (λ k l. halves-bit w k l ∙ each k l ∙ sym (bit-zero k))))
 
-pub bits-clash : (w k : ℕ) → k < 16 → bit k w ≡ true → bit (16 + k) w ≡ true → clashOf w ≡ true
-bits-clash w k l p q = go (clashOf w) refl
-  where
-    go : (t : Bool) → clashOf w ≡ t → t ≡ true
-    go true e = refl
-    go false e = sym (rw (p, q) at (clash-bits w e k l))
-
-pub clash-invalid : (w : ℕ) → clashOf w ≡ true → validOf w ≡ false
+clash-invalid : (w : ℕ) → clashOf w ≡ true → validOf w ≡ false
 clash-invalid w h = go (validOf w) refl
   where
     never : (t : Bool) → (t && not t) ≡ false
@@ -83,7 +76,7 @@ clash-invalid w h = go (validOf w) refl
     go true e = sym h ∙ no-clash w (λ k l. rw (valid-bits w e k l) (never (bit k w)))
     go false e = refl
 
-pub clash-rises : (a b : ℕ) → clashOf a ≡ true → Rises a b → clashOf b ≡ true
+clash-rises : (a b : ℕ) → clashOf a ≡ true → Rises a b → clashOf b ≡ true
 clash-rises a b h up = go (clashOf b) refl
   where
     table : (p q r s : Bool) → (p ≡ true → r ≡ true) → (q ≡ true → s ≡ true) → (r && s) ≡ false → (p && q) ≡ false
@@ -101,7 +94,7 @@ unfolding clashOf
 erased-clash = refl
 
 -- a word that has every one of a valid word is that word, or has a position at 1 in both halves
-pub settle : (a b : ℕ) → a < 2 ^ 32 → b < 2 ^ 32 → validOf a ≡ true → Rises a b → (b ≡ a) ⊎ (clashOf b ≡ true)
+settle : (a b : ℕ) → a < 2 ^ 32 → b < 2 ^ 32 → validOf a ≡ true → Rises a b → (b ≡ a) ⊎ (clashOf b ≡ true)
 settle a b ha hb ok up = go (clashOf b) refl
   where
     -- of a pair of bits of a, the second is the complement of the first

@@ -10,7 +10,7 @@ use mathlib.Core.Bool.{Bool, true, false, not, _&&_, _||_}
 use lib.Dec.{eqb, ltb}
 use lib.Arith.{digits-mod, lt-one}
 use lib.Pow.{pow-pos, pow-lt, pow-add, pow-mono, shr-shr, shr-lt, high-ones, field, mod-mod-pow}
-use lib.Bits.{bitAnd, bitOr, bitXor, differ, and-step, or-step, xor-step, and-shr, or-shr, xor-shr, and-lt, xor-lt, and-high, and-mask}
+use lib.Bits.{bitAnd, bitOr, bitXor, differ, and-step, or-step, xor-step, and-shr, or-shr, xor-shr, and-high, and-mask}
 use borrow.Author.Tests.{ne-eqb, ltb-true, ltb-false}
 use Rattle.words.specs.Word.{pick, bit, hasOf, mergeOf, clearOf}
 
@@ -96,10 +96,6 @@ clear-bit k w mask = simp (bit-xor, bit-and) (table (bit k w) (bit k mask))
     table true false = refl
     table false m = refl
 
--- ---- a word's range
-pub merge-below : (n mask a b : ℕ) → mask < 2 ^ n → a < 2 ^ n → b < 2 ^ n → mergeOf mask a b < 2 ^ n
-merge-below n mask a b hm ha hb = xor-lt n _ b (and-lt n _ mask (xor-lt n a b ha hb) hm) hb
-
 -- ---- two words with the same bits are the same
 pub equal-below : (n a b : ℕ) → a < 2 ^ n → b < 2 ^ n → ((k : ℕ) → k < n → bit k a ≡ bit k b) → a ≡ b
 equal-below zero a b ha hb e = lt-one ha ∙ sym (lt-one hb)
@@ -141,7 +137,7 @@ equal-by-bits a b e =
 pub bit-zero : (k : ℕ) → bit k 0 ≡ false
 bit-zero k = ap (λ (x : ℕ). eqb (x % 2) 1) (div-eq-of-lt (pow-pos k))
 
-pub bit-self : (k : ℕ) → bit k (2 ^ k) ≡ true
+bit-self : (k : ℕ) → bit k (2 ^ k) ≡ true
 bit-self k = ap (λ (x : ℕ). eqb (x % 2) 1) (div-self (pow-pos k))
 
 pub bit-other : (j k : ℕ) → (j ≡ k → ⊥) → bit k (2 ^ j) ≡ false

@@ -19,7 +19,7 @@ pub record Within (mask w : ℕ) : Type 0 where
 pub within-bit : (mask w : ℕ) → Within mask w → (k : ℕ) → (bit k w && bit k mask) ≡ bit k w
 within-bit mask w h k = sym (bit-and k w mask) ∙ ap (bit k) (h .inside)
 
-pub by-bits : (mask w : ℕ) → ((k : ℕ) → (bit k w && bit k mask) ≡ bit k w) → Within mask w
+by-bits : (mask w : ℕ) → ((k : ℕ) → (bit k w && bit k mask) ≡ bit k w) → Within mask w
 by-bits mask w e = record { inside = equal-by-bits (bitAnd w mask) w (λ k. bit-and k w mask ∙ e k) }
 
 -- the test of it

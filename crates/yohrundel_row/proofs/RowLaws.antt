@@ -98,7 +98,7 @@ module _ (n k set last : ℕ) (waiting : List ℕ) (inside : last < n) (sound : 
     unfolding waitersOf
     waiters-same = rw (ready-same, records-same (beginsOf r) (beginsOf s) n begins-same) refl
 
-    pub choice-same : choiceOf r ≡ choiceOf s
+    choice-same : choiceOf r ≡ choiceOf s
     choice-same = rw (served-same, waiters-same) refl
 
 -- ---- the call, on two lists with the same first n records
@@ -169,7 +169,7 @@ module _ (g : Geometry) (k : ℕ) (xs ys : List Sign) (n : ℕ) (queue : Queue) 
           (same (choice .served) (ltb-true _ _ e)))
       go false e = rw e refl
 
-  pub call-same : scheduleRowOf g k xs n queue last store image sram ≡ scheduleRowOf g k ys n queue last store image sram
+  call-same : scheduleRowOf g k xs n queue last store image sram ≡ scheduleRowOf g k ys n queue last store image sram
   unfolding scheduleRowOf
   call-same = go (acceptedOf (decline ys)) refl
     where

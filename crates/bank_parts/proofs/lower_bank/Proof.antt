@@ -9,12 +9,15 @@ use Rattle.words.proofs.BitLaws.{true-not-false}
 use Rattle.bank_parts.proofs.lower_bank.Statement.{statement}
 use Rattle.bank_parts.proofs.lower_bank.Tie as tie
 
-accepted : (c : tie.Then1) → let a = c .before .before .before .before .before .args in
+abbrev entry : tie.After-is-accepted → tie.Start
+entry c = c .before .before .before .before
+
+accepted : (c : tie.Then1) → let a = entry (c .before) .args in
     acceptedOf (lowerBankDeclineOf (a .g) (a .d) (length (a .one .now)) (length (a .two .now))) ≡ true
 accepted c =
     ap acceptedOf (sym (c .before .before .lower-bank-decline .ensures)) ∙ sym (c .before .is-accepted .ensures) ∙ c .if1 .taken
 
-declined : (c : tie.Else1) → let a = c .before .before .before .before .before .args in
+declined : (c : tie.Else1) → let a = entry (c .before) .args in
     acceptedOf (lowerBankDeclineOf (a .g) (a .d) (length (a .one .now)) (length (a .two .now))) ≡ false
 declined c =
     ap acceptedOf (sym (c .before .before .lower-bank-decline .ensures)) ∙ sym (c .before .is-accepted .ensures) ∙ c .if1 .left

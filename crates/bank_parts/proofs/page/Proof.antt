@@ -14,24 +14,27 @@ use Rattle.bank_parts.proofs.AcceptedLaws.{page-lies}
 use Rattle.bank_parts.proofs.page.Statement.{statement}
 use Rattle.bank_parts.proofs.page.Tie as tie
 
-accepted : (c : tie.Then1) → let a = c .before .before .before .before .args in
+abbrev entry : tie.After-is-accepted → tie.Start
+entry c = c .before .before .before
+
+accepted : (c : tie.Then1) → let a = entry (c .before) .args in
     acceptedOf (pageDeclineOf (a .g) (length (a .bank .now)) (a .page)) ≡ true
 accepted c =
     ap acceptedOf (sym (c .before .before .page-decline .ensures)) ∙ sym (c .before .is-accepted .ensures) ∙ c .if1 .taken
 
-declined : (c : tie.Else1) → let a = c .before .before .before .before .args in
+declined : (c : tie.Else1) → let a = entry (c .before) .args in
     acceptedOf (pageDeclineOf (a .g) (length (a .bank .now)) (a .page)) ≡ false
 declined c =
     ap acceptedOf (sym (c .before .before .page-decline .ensures)) ∙ sym (c .before .is-accepted .ensures) ∙ c .if1 .left
 
-lies : (c : tie.Then1) → let a = c .before .before .before .before .args in
+lies : (c : tie.Then1) → let a = entry (c .before) .args in
     InRange (a .g) × (a .page * pageWordsOf (a .g) + pageWordsOf (a .g) ≤ length (a .bank .now))
-lies c = let a = c .before .before .before .before .args in page-lies (a .g) (length (a .bank .now)) (a .page) (accepted c)
+lies c = let a = entry (c .before) .args in page-lies (a .g) (length (a .bank .now)) (a .page) (accepted c)
 
 ranged : tie.Need-page-words-requires
 ranged c κs = lies c .0
 
-room : (c : tie.After-page-words) → let a = c .before .before .before .before .before .args in
+room : (c : tie.After-page-words) → let a = entry (c .before .before) .args in
     a .page * c .page-words .result + c .page-words .result ≤ length (a .bank .now)
 room c = rw (c .page-words .ensures) (lies (c .before) .1)
 

@@ -20,8 +20,11 @@ declined c =
     let e = c .before .before .lent-decline .ensures in
     rw (stopped e (c .before .is-accepted .ensures) (c .if1 .taken)) e
 
+abbrev entry : tie.Else1 → tie.Start
+entry c = c .before .before .before .before
+
 -- neither decline 1 nor decline 2 applies
-accepted : (c : tie.Else1) → let a = c .before .before .before .before .args in
+accepted : (c : tie.Else1) → let a = entry c .args in
     acceptedOf (lentDeclineOf (a .g) (length (a .bank .now) ∷ []) 0) ≡ true
 accepted c = went-on (c .before .before .lent-decline .ensures) (c .before .is-accepted .ensures) (c .if1 .left)
 
@@ -33,7 +36,7 @@ unfolding pageDeclineOf
 past c =
     let pages = c .before in
     let test = pages .before in
-    let page = test .before .before .before .before .args .page in
+    let page = entry test .args .page in
     rw (accepted test, ← pages .pages .ensures, le-ltb page (pages .pages .result) (omega (arith, c .if2 .taken)))
 
 within : tie.Need-returns-3
@@ -41,7 +44,7 @@ unfolding pageDeclineOf
 within c =
     let pages = c .before in
     let test = pages .before in
-    let page = test .before .before .before .before .args .page in
+    let page = entry test .args .page in
     rw (accepted test, ← pages .pages .ensures, lt-ltb page (pages .pages .result) (omega (arith, c .if2 .left)))
 
 pub page-decline-spec : {M : Type 1} → statement M

@@ -1,6 +1,6 @@
 -- Declined; read at once where the bank is free; and else read after the steps that remain.
 use borrow.Author.Needs.{needs}
-use borrow.Author.Tests.{not-true, not-false}
+use borrow.Author.Tests.{not-true}
 use mathlib.Core.Bool.{true, false}
 use mathlib.Core.List.{[], _∷_}
 use mathlib.Core.Path.{_≡_, sym, _∙_}
@@ -35,17 +35,24 @@ ready : (c : tie.Else1) → let a = entry c .args in
 ready c = let a = entry c .args in read-ready (a .g) (a .d) _ _ _ _ (accepted c)
 
 -- the first test, from the second
+abbrev at-first : tie.After-is-free → tie.Else1
+at-first c = c .before .before .before
+
 abbrev from-free : tie.Then2 → tie.Else1
-from-free c = c .before .before .before .before
+from-free c = at-first (c .before)
 
 abbrev from-busy : tie.Else2 → tie.Else1
-from-busy c = c .before .before .before .before
+from-busy c = at-first (c .before)
+
+tested : (c : tie.After-is-free) → let a = entry (at-first c) .args in
+    c .is-free .result ≡ freeOf (a .g) (a .d) (secondAtOf (a .d) (locateOf (a .g) (a .address)))
+tested c = rw (← c .before .before .locate .ensures, ← c .before .second-at .ensures) (c .is-free .ensures)
 
 free : (c : tie.Then2) → let a = entry (from-free c) .args in freeOf (a .g) (a .d) (secondAtOf (a .d) (locateOf (a .g) (a .address))) ≡ true
-free c = rw (← c .before .before .before .locate .ensures, ← c .before .before .second-at .ensures) (sym (c .before .is-free .ensures) ∙ c .if2 .taken)
+free c = sym (tested (c .before)) ∙ c .if2 .taken
 
 busy : (c : tie.Else2) → let a = entry (from-busy c) .args in freeOf (a .g) (a .d) (secondAtOf (a .d) (locateOf (a .g) (a .address))) ≡ false
-busy c = rw (← c .before .before .before .locate .ensures, ← c .before .before .second-at .ensures) (sym (c .before .is-free .ensures) ∙ c .if2 .left)
+busy c = sym (tested (c .before)) ∙ c .if2 .left
 
 -- ---- what each call asks for, and what each return gives
 
@@ -82,10 +89,13 @@ remaining c =
 abbrev before-steps : tie.After-steps → tie.Else2
 before-steps c = c .before .before .before .before .before .before
 
+-- the steps, from the read after them
+abbrev after-steps : tie.After-given-arg4 → tie.After-steps
+after-steps c = c .before .before .before .before .before .before
+
 still-whole : tie.Need-given-requires-2
 still-whole c κs =
-    let steps = c .before .before .before .before .before .before in
-    let (r, inside) = ready (from-busy (before-steps steps)) in
+    let (r, inside) = ready (from-busy (before-steps (after-steps c))) in
     let one = r .lent .banks .0 in
     let two = r .lent .banks .1 .0 in
     (r .lent .range, ((search (needs, one), search (needs, two)), inside))
@@ -93,7 +103,7 @@ still-whole c κs =
 read-then : tie.Need-returns-3
 unfolding flashReadOf
 read-then c =
-    let steps = c .before .before .before .before .before .before .before in
+    let steps = after-steps (c .before) in
     let count = steps .before .before .before .before in
     let test = before-steps steps in
     rw (

@@ -6,6 +6,9 @@ use Rattle.row_schedule.proofs.RoundLaws.{none-found, one-found}
 use Rattle.row_schedule.proofs.from_round.Statement.{statement}
 use Rattle.row_schedule.proofs.from_round.Tie as tie
 
+abbrev entry : tie.After-first-found → tie.Start
+entry c = c .before .before .before .before
+
 searchable : tie.Need-first-found-requires
 searchable c κs =
     let (range, (n, (below, (room, (inside, (apart, row)))))) = c .before .before .before .pre in
@@ -14,7 +17,7 @@ searchable c κs =
 nobody : tie.Need-returns
 nobody c =
     let found = c .before .before in
-    let a = found .before .before .before .before .args in
+    let a = entry found .args in
     none-found (a .row .signs) (a .n) (a .queue) (a .last)
     (standOf (a .g) (a .row .signs) (a .queue) (a .full) (a .store .now) (a .image .now) (a .sram .now)) _ (found .first-found .ensures) _
     (c .before .joined-queue .ensures) (c .if1 .taken)
@@ -22,7 +25,7 @@ nobody c =
 somebody : tie.Need-returns-2
 somebody c =
     let found = c .before .before in
-    let a = found .before .before .before .before .args in
+    let a = entry found .args in
     one-found (a .row .signs) (a .n) (a .queue) (a .last)
     (standOf (a .g) (a .row .signs) (a .queue) (a .full) (a .store .now) (a .image .now) (a .sram .now)) _ (found .first-found .ensures) _
     (c .before .joined-queue .ensures) (omega (arith, c .if1 .left))

@@ -19,6 +19,9 @@ Inv-loop script i₀ i = (i ≤ length script / 8) × (allBelow (λ k. isRecordO
 abbrev μ-loop : tie.MeasureT-loop
 μ-loop script i₀ i = length script / 8 - i
 
+abbrev entry : tie.At-loop Inv-loop μ-loop → tie.Start Inv-loop μ-loop
+entry c = c .before .before .before
+
 odd : tie.Need-returns Inv-loop μ-loop
 unfolding isScriptOf
 odd c = rw (ne-eqb _ _ (c .if1 .taken))
@@ -32,7 +35,7 @@ unknown c =
     let record-at = c .before .before in
     let test = record-at .before in
     let here = test .before in
-    let script = here .before .before .before .args .script .now in
+    let script = entry here .args .script .now in
     let wrong = rw (record-at .record-at .ensures) at (sym (c .before .is-record .ensures) ∙ not-true _ (c .if2 .taken)) in
     rw (
       eq-eqb _ _ (here .before .if1 .left),
@@ -51,7 +54,7 @@ all-known : tie.Need-returns-3 Inv-loop μ-loop
 unfolding isScriptOf
 all-known c =
     let here = c .before in
-    let script = here .before .before .before .args .script .now in
+    let script = entry here .args .script .now in
     let e : length script / 8 ≡ here .loop .i = omega (arith, c .loop-test .left, here .loop .inv .0) in
     rw (eq-eqb _ _ (here .before .if1 .left), e, here .loop .inv .1)
 

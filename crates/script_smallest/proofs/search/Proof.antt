@@ -24,8 +24,14 @@ called c = c .before .before .before .before
 abbrev entry : tie.After-shows-without → tie.Start
 entry c = called (lent (c .before))
 
+abbrev tried : tie.After-slice-known5 → tie.After-shows-without
+tried c = c .before .before .before .before
+
 abbrev played : tie.Else1 → tie.After-shows-without
-played c = c .before .before .before .before .before
+played c = tried (c .before)
+
+abbrev dropping : tie.After-slice-known9 → tie.After-drop-records
+dropping c = c .before .before .before .before .before .before
 
 abbrev put : tie.After-drop-records → tie.After-put-front
 put c = c .before .before .before .before .before .before
@@ -43,7 +49,7 @@ first-play-fits c κs =
 
 never-given : tie.Need-returns
 never-given c =
-    let trial = c .before .before .before .before .before in
+    let trial = tried (c .before) in
     let start = entry trial in
     let a = start .args in
     let s = state (a .d) (a .one .now) (a .two .now) in
@@ -66,7 +72,7 @@ dropping-fits c κs =
 
 few-records : tie.Need-cast-t31
 few-records c =
-    let dropped = c .before .before .before .before .before .before in
+    let dropped = dropping c in
     let before = put dropped in
     let n : dropped .drop-records .result ≤ 64 =
     few-left _ _ _ _ (start before .args .script .now) (start before .args .result .now) _ _ (before .put-front .ensures ∙ is-script before)
@@ -75,7 +81,7 @@ few-records c =
 
 all-dropped : tie.Need-returns-2
 all-dropped c =
-    let dropped = c .before .before .before .before .before .before in
+    let dropped = dropping c in
     let before = put dropped in
     let trial = played (shown before) in
     let a = entry trial .args in

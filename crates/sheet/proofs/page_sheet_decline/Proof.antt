@@ -17,7 +17,10 @@ declined : tie.Need-returns
 unfolding pageSheetDeclineOf
 declined c = let e = c .before .before .common-decline .ensures in rw (stopped e (c .before .is-accepted .ensures) (c .if1 .taken)) e
 
-accepted : (c : tie.Else1) → let a = c .before .before .before .args in
+abbrev entry : tie.Else1 → tie.Start
+entry c = c .before .before .before
+
+accepted : (c : tie.Else1) → let a = entry c .args in
     acceptedOf (commonDeclineOf (a .g) (a .d) (a .one ∷ a .two ∷ []) 0) ≡ true
 accepted c = went-on (c .before .before .common-decline .ensures) (c .before .is-accepted .ensures) (c .if1 .left)
 
@@ -28,14 +31,14 @@ too-short : tie.Need-returns-2
 unfolding pageSheetDeclineOf
 too-short c =
     let pages = c .before in
-    let a = pages .before .before .before .before .args in
+    let a = entry (pages .before) .args in
     rw (accepted (pages .before), lt-leb (sheetBytesOf (a .g)) (a .buffer) (omega (arith, c .if2 .taken, pages .pages .ensures)))
 
 long-enough : tie.Need-returns-3
 unfolding pageSheetDeclineOf
 long-enough c =
     let pages = c .before in
-    let a = pages .before .before .before .before .args in
+    let a = entry (pages .before) .args in
     rw (accepted (pages .before), le-leb (sheetBytesOf (a .g)) (a .buffer) (omega (arith, c .if2 .left, pages .pages .ensures)))
 
 pub page-sheet-decline-spec : {M : Type 1} → statement M

@@ -12,14 +12,16 @@ bank-fits c κs = (rw (c .bank-number .ensures) (bank-width (c .before .before .
 page-fits : tie.Need-put-right-column-requires-2
 page-fits c κs = (page-width _ (omega arith), omega arith)
 
-protection-fits : tie.Need-put-right-column-requires-3
-protection-fits c κs =
-    let fourth = c .before .before .before .before in
+-- the start, from the fourth column; `rw` needs this way spelled out below
+abbrev entry : tie.After-put-letter2 → tie.Start
+entry fourth =
     let third = fourth .before .before .before .before .before in
     let second = third .before .before .before .before in
     let first = second .before .before .before .before .before in
-    let start = first .before .before .before .before in
-    (flag-fits (start .args .s .protected), omega arith)
+    first .before .before .before .before
+
+protection-fits : tie.Need-put-right-column-requires-3
+protection-fits c κs = (flag-fits (entry (c .before .before .before .before) .args .s .protected), omega arith)
 
 quads-fit : tie.Need-put-right-column-requires-4
 quads-fit c κs = (quads-width _ (omega arith), omega arith)

@@ -37,6 +37,10 @@ entry-allowed c = entry-idle (c .before .before)
 abbrev entry-next : tie.Else4 → tie.Start
 entry-next c = entry-allowed (c .before .before .before)
 
+-- after the second test, from after the fourth
+abbrev without-update : tie.Else4 → tie.Else2
+without-update c = c .before .before .before .before .before
+
 -- ---- what holds after each test that does not decline
 
 -- none of declines 1 to 3 applies
@@ -105,7 +109,7 @@ protected : tie.Need-returns-5
 unfolding startDeclineOf
 protected c =
     let tested = c .before .before in
-    let on = tested .before .before .before .before .before in
+    let on = without-update tested in
     rw (
       accepted (on .before .before),
       idle on,
@@ -118,7 +122,7 @@ begins : tie.Need-returns-6
 unfolding startDeclineOf
 begins c =
     let tested = c .before .before in
-    let on = tested .before .before .before .before .before in
+    let on = without-update tested in
     rw (
       accepted (on .before .before),
       idle on,

@@ -30,6 +30,9 @@ store-entry c = c .before .before .before .before
 abbrev step-entry : tie.At-match-keys2 → tie.Start
 step-entry c = c .before .before .before .before
 
+abbrev told : tie.After-has → tie.After-enum-told
+told c = c .before
+
 -- ---- a store
 
 store-declined : tie.Need-returns
@@ -69,7 +72,7 @@ step-declined : tie.Need-returns-2
 unfolding actOf
 step-declined c =
     let test = c .before in
-    rw (c .unchanged2 .ensures, test .before .before .enum-told .given .1, sym (test .before .has .ensures) ∙ not-true _ (test .if2 .taken))
+    rw (c .unchanged2 .ensures, told (test .before) .enum-told .given .1, sym (test .before .has .ensures) ∙ not-true _ (test .if2 .taken))
     (refl, λ e. true-not-false (sym e))
 
 -- an operation runs
@@ -98,7 +101,7 @@ stepped c =
     rw (
       c .going2 .ensures,
       effect .step-effect .ensures,
-      test .before .before .enum-told .given .1,
+      told (test .before) .enum-told .given .1,
       on,
       step-carried (a .g) s (a .sram .now) (start .pre .0) sound (start .pre .1 .1 .1 .0) on,
       advance-accepts,

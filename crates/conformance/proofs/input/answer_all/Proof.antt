@@ -7,6 +7,12 @@ use lib.Seq.{length-take-le}
 use Rattle.conformance.proofs.input.answer_all.Statement.{statement}
 use Rattle.conformance.proofs.input.answer_all.Tie as tie
 
+line-lies : tie.Need-slice-reshare-prefix-answer-lines
+line-lies c = simp length-set (omega arith)
+
+line-long : tie.Need-slice-aggregate-answer-lines
+line-long c = sym (length-take-le _ _ (simp length-set (omega arith)))
+
 pub answer-all-spec : {M : Type 1} → statement M
 answer-all-spec =
     tie.close
@@ -16,8 +22,8 @@ answer-all-spec =
     (λ c. search needs)
     (λ c. search needs)
     (λ c. search needs)
-    (λ c. simp length-set (omega arith))
-    (λ c. sym (length-take-le _ _ (simp length-set (omega arith))))
+    line-lies
+    line-long
     (λ c κs. search needs)
     (λ c. search needs)
     (λ c. search needs)

@@ -6,6 +6,9 @@ use lib.Seq.{length-take-le}
 use Rattle.conformance.proofs.input.turn.Statement.{statement}
 use Rattle.conformance.proofs.input.turn.Tie as tie
 
+filled-long : tie.Need-slice-aggregate-answer-lines
+filled-long c = sym (length-take-le _ _ (omega arith))
+
 keep-requires : tie.Need-keep-requires
 keep-requires c κs =
     let filled = c .before .before .before .before .before .before .fill in
@@ -19,7 +22,7 @@ turn-spec =
     (λ c. search needs)
     (λ c. search needs)
     (λ c. search needs)
-    (λ c. sym (length-take-le _ _ (omega arith)))
+    filled-long
     (λ c κs. search needs)
     keep-requires
     (λ c κs. search needs)

@@ -4,10 +4,16 @@ use borrow.Author.Needs.{needs}
 use Rattle.conformance_answers.proofs.device_calls.pages_of.Statement.{statement}
 use Rattle.conformance_answers.proofs.device_calls.pages_of.Tie as tie
 
+boot : tie.Need-returns
+boot c = rw (c .match .keys1) (omega arith)
+
+program : tie.Need-returns-2
+program c = rw (c .match .keys2) (omega arith)
+
 pub pages-of-spec : {M : Type 1} → statement M
 pages-of-spec =
     tie.close
     (tie.spec
-    (λ c. rw (c .match .keys1) (omega arith))
-    (λ c. rw (c .match .keys2) (omega arith))
+    boot
+    program
     (λ c. search needs))

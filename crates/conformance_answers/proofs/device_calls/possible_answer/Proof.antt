@@ -6,6 +6,9 @@ use Rattle.geometry.proofs.SizeLaws.{in-range}
 use Rattle.conformance_answers.proofs.device_calls.possible_answer.Statement.{statement}
 use Rattle.conformance_answers.proofs.device_calls.possible_answer.Tie as tie
 
+ranged : tie.Need-is-possible-requires
+ranged c κs = let test = c .before .before in in-range _ (sym (test .before .in-range .ensures) ∙ not-false _ (test .if1 .left))
+
 pub possible-answer-spec : {M : Type 1} → statement M
 possible-answer-spec =
     tie.close
@@ -16,6 +19,6 @@ possible-answer-spec =
     (λ c. search needs)
     (λ c κs. search needs)
     (λ c κs. search needs)
-    (λ c κs. in-range _ (sym (c .before .before .before .in-range .ensures) ∙ not-false _ (c .before .before .if1 .left)))
+    ranged
     (λ c κs. search needs)
     (λ c. search needs))

@@ -18,12 +18,16 @@ abbrev μ-loop : tie.MeasureT-loop
 loop-holds : tie.Need-loop-holds Inv-loop μ-loop
 loop-holds c = (omega arith, omega arith, λ k below above. absurd (omega arith))
 
+-- the loop, from the test of an index
+abbrev looping : tie.After-shared-slice-known2 Inv-loop μ-loop → tie.At-loop Inv-loop μ-loop
+looping c = c .before .before .before
+
 returns : tie.Need-returns Inv-loop μ-loop
 returns c =
     record {
       from-on = omega arith;
       within = omega arith;
-      same-before = c .before .before .before .before .loop .inv .2;
+      same-before = looping (c .before) .loop .inv .2;
       there = λ _. c .if1 .taken;
     }
 
@@ -31,7 +35,7 @@ loop-again : tie.Need-loop-again Inv-loop μ-loop
 loop-again c = (
   omega arith,
   omega arith,
-  below-more _ _ (c .before .before .before .before .loop .inv .2) (λ _. c .if1 .left),
+  below-more _ _ (looping (c .before) .loop .inv .2) (λ _. c .if1 .left),
 )
 
 returns-2 : tie.Need-returns-2 Inv-loop μ-loop

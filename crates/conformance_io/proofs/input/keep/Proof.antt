@@ -12,6 +12,9 @@ Inv-loop buffer₀ start end count i₀ buffer i = (i ≤ count) × (length buff
 abbrev μ-loop : tie.MeasureT-loop
 μ-loop buffer₀ start end count i₀ buffer i = count - i
 
+length-kept : tie.Need-loop-again Inv-loop μ-loop
+length-kept c = simp length-set (omega arith)
+
 pub keep-spec : {M : Type 1} → statement M
 keep-spec =
     tie.close
@@ -25,6 +28,6 @@ keep-spec =
     (λ c. omega arith)
     (λ c. omega arith)
     (λ c. omega arith)
-    (λ c. simp length-set (omega arith))
+    length-kept
     (λ c. omega arith)
     (λ c. omega arith))

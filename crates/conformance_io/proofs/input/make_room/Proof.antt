@@ -5,6 +5,9 @@ use lib.ListN.{length-set}
 use Rattle.conformance_io.proofs.input.make_room.Statement.{statement}
 use Rattle.conformance_io.proofs.input.make_room.Tie as tie
 
+length-kept : tie.Need-returns-3
+length-kept c = simp length-set (omega arith)
+
 pub make-room-spec : {M : Type 1} → statement M
 make-room-spec =
     tie.close
@@ -13,4 +16,4 @@ make-room-spec =
     (λ c. search needs)
     (λ c. search needs)
     (λ c. search needs)
-    (λ c. simp length-set (omega arith)))
+    length-kept)

@@ -6,10 +6,13 @@ use lib.Seq.{length-take-le}
 use Rattle.conformance_io.proofs.output.flush.Statement.{statement}
 use Rattle.conformance_io.proofs.output.flush.Tie as tie
 
+as-used : tie.Need-slice-aggregate-write-all
+as-used c = sym (length-take-le _ _ (omega arith))
+
 pub flush-spec : {M : Type 1} → statement M
 flush-spec =
     tie.close
     (tie.spec
-    (λ c. sym (length-take-le _ _ (omega arith)))
+    as-used
     (λ c κs. search needs)
     (λ c. search needs))

@@ -21,13 +21,17 @@ loop-holds c = (omega arith, omega arith, λ k below above e. omega arith)
 shared-slice-read-if1 : tie.Need-shared-slice-read-if1 Inv-loop μ-loop
 shared-slice-read-if1 c = omega arith
 
+-- the loop, from the test of a byte
+abbrev looping : tie.After-shared-slice-known Inv-loop μ-loop → tie.At-loop Inv-loop μ-loop
+looping c = c .before .before
+
 returns : tie.Need-returns Inv-loop μ-loop
 returns c =
     record {
       from-on = omega arith;
       within = omega arith;
       front = sym (length-take-le _ _ (omega arith));
-      none-before = c .before .before .before .loop .inv .2;
+      none-before = looping (c .before) .loop .inv .2;
       there = λ _. c .if1 .taken;
     }
 
@@ -39,7 +43,7 @@ loop-less c = omega arith
 
 loop-again : tie.Need-loop-again Inv-loop μ-loop
 loop-again c =
-    (omega arith, omega arith, below-more _ _ (c .before .before .before .loop .inv .2) (λ _. c .if1 .left))
+    (omega arith, omega arith, below-more _ _ (looping (c .before) .loop .inv .2) (λ _. c .if1 .left))
 
 returns-2 : tie.Need-returns-2 Inv-loop μ-loop
 returns-2 c =

@@ -13,6 +13,9 @@ Inv-loop words₀ word i₀ words i = (i ≤ length words) × (length words ≡ 
 abbrev μ-loop : tie.MeasureT-loop
 μ-loop words₀ word i₀ words i = length words₀ - i
 
+length-kept : tie.Need-loop-again Inv-loop μ-loop
+length-kept c = simp length-set (omega arith)
+
 pub fill-spec : {M : Type 1} → statement M
 fill-spec =
     tie.close
@@ -24,6 +27,6 @@ fill-spec =
     (λ c. omega arith)
     (λ c. omega arith)
     (λ c. omega arith)
-    (λ c. simp length-set (omega arith))
+    length-kept
     (λ c. omega arith)
-    (λ c. tt))
+    (λ c. search needs))

@@ -13,6 +13,9 @@ Inv-loop line at words₀ count next₀ i₀ words next i = (i ≤ count) × (le
 abbrev μ-loop : tie.MeasureT-loop
 μ-loop line at words₀ count next₀ i₀ words next i = count - i
 
+length-kept : tie.Need-loop-again Inv-loop μ-loop
+length-kept c = simp length-set (omega arith)
+
 pub set-pairs-spec : {M : Type 1} → statement M
 set-pairs-spec =
     tie.close
@@ -21,19 +24,19 @@ set-pairs-spec =
     μ-loop
     (λ c. omega arith)
     (λ c κs. omega arith)
-    (λ c κs. tt)
+    (λ c κs. search needs)
     (λ c. omega arith)
-    (λ c. tt)
     (λ c. search needs)
     (λ c. search needs)
-    (λ c κs. tt)
+    (λ c. search needs)
+    (λ c κs. search needs)
     (λ c. omega arith)
-    (λ c. tt)
+    (λ c. search needs)
     (λ c. search needs)
     (λ c. omega arith)
     (λ c. omega arith)
     (λ c. omega arith)
     (λ c. omega arith)
-    (λ c. simp length-set (omega arith))
+    length-kept
     (λ c. omega arith)
-    (λ c. tt))
+    (λ c. search needs))

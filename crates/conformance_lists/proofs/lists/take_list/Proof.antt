@@ -15,6 +15,12 @@ returns-5 c =
       front = sym (length-take-le _ _ (search needs));
     }
 
+first-part : tie.Need-slice-aggregate-fill
+first-part c = sym (length-take-le _ _ (omega arith))
+
+second-part : tie.Need-slice-aggregate-set-pairs
+second-part c = sym (length-take-le _ _ (search needs))
+
 pub take-list-spec : {M : Type 1} → statement M
 take-list-spec =
     tie.close
@@ -33,11 +39,11 @@ take-list-spec =
     (λ c κs. search needs)
     (λ c. search needs)
     (λ c. search needs)
-    (λ c. sym (length-take-le _ _ (omega arith)))
+    first-part
     (λ c. search needs)
     (λ c κs. search needs)
     (λ c. search needs)
-    (λ c. sym (length-take-le _ _ (search needs)))
+    second-part
     (λ c. search needs)
     (λ c κs. search needs)
     (λ c. search needs)

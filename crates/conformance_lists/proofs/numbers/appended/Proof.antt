@@ -15,32 +15,21 @@ returns-2 c = rw (le-ltb _ _ (c .before .if1 .left), lt-ltb _ _ (c .if2 .taken))
 
 returns-3 : tie.Need-returns-3
 unfolding appendedOf
-returns-3 c =
-    rw (
-      le-ltb _ _ (c .before .before .if1 .left),
-      le-ltb _ _ (c .before .if2 .left),
-      lt-ltb _ _ (c .if3 .taken),
-    )
+returns-3 c = rw (le-ltb _ _ (c .before .before .if1 .left), le-ltb _ _ (c .before .if2 .left), lt-ltb _ _ (c .if3 .taken))
 
 returns-4 : tie.Need-returns-4
 unfolding appendedOf
 returns-4 c =
-    rw (
-      le-ltb _ _ (c .before .before .before .if1 .left),
-      le-ltb _ _ (c .before .before .if2 .left),
-      le-ltb _ _ (c .before .if3 .left),
-      lt-ltb _ _ (c .if4 .taken),
-    )
+    let third = c .before in
+    let second = third .before in
+    rw (le-ltb _ _ (second .before .if1 .left), le-ltb _ _ (second .if2 .left), le-ltb _ _ (third .if3 .left), lt-ltb _ _ (c .if4 .taken))
 
 returns-5 : tie.Need-returns-5
 unfolding appendedOf
 returns-5 c =
-    rw (
-      le-ltb _ _ (c .before .before .before .if1 .left),
-      le-ltb _ _ (c .before .before .if2 .left),
-      le-ltb _ _ (c .before .if3 .left),
-      le-ltb _ _ (c .if4 .left),
-    )
+    let third = c .before in
+    let second = third .before in
+    rw (le-ltb _ _ (second .before .if1 .left), le-ltb _ _ (second .if2 .left), le-ltb _ _ (third .if3 .left), le-ltb _ _ (c .if4 .left))
 
 pub appended-spec : {M : Type 1} → statement M
 appended-spec =

@@ -1,4 +1,5 @@
 -- The invariant: the value with the bytes that are left makes the whole number. The measure is their count.
+use borrow.Author.Needs.{needs}
 use Prim.Native.Nat.{ℕ, _≤_, _<_, _-_}
 use mathlib.Core.Path.{_≡_, refl}
 use mathlib.Core.List.{List, [], _∷_}
@@ -26,10 +27,10 @@ abbrev μ-loop : tie.MeasureT-loop
 μ-loop digits value₀ i₀ value i = length digits - i
 
 returns : tie.Need-returns Inv-loop μ-loop
-returns c = empty (c .before .before .args .digits .now) (c .if1 .taken)
+returns c = let start = c .before .before in empty (start .args .digits .now) (c .if1 .taken)
 
 loop-holds : tie.Need-loop-holds Inv-loop μ-loop
-loop-holds c = (omega arith, from-first (c .before .before .args .digits .now) (c .if1 .left))
+loop-holds c = let start = c .before .before in (omega arith, from-first (start .args .digits .now) (c .if1 .left))
 
 loop-again : tie.Need-loop-again Inv-loop μ-loop
 loop-again c =
@@ -54,7 +55,7 @@ number-spec =
     returns
     loop-holds
     (λ c. omega arith)
-    (λ c κs. tt)
+    (λ c κs. search needs)
     (λ c. omega arith)
     (λ c. omega arith)
     loop-again

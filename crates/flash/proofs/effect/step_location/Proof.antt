@@ -51,6 +51,10 @@ in-upper c =
       eq-eqb _ _ (c .before .if3 .taken),
     )
 
+-- the entry, from the test of the two halves
+abbrev entry : tie.After-struct-known3 → tie.Start
+entry c = c .before .before .before .before .before .before
+
 quads : tie.Need-mul-region
 quads c = let ok = c .before .before .before .before .before .pre .range in omega (arith, ok .q-high)
 
@@ -59,7 +63,7 @@ region c = let ok = c .before .before .before .before .before .before .pre .rang
 
 both-lower : tie.Need-mul-lower
 both-lower c =
-    let start = c .before .before .before .before .before .before .before in
+    let start = entry (c .before) in
     omega (arith, steps-high (start .args .g) (start .args .d) (start .pre))
 
 first-half : tie.Need-returns-4
@@ -78,7 +82,7 @@ first-half c =
 
 both-upper : tie.Need-mul-upper
 both-upper c =
-    let start = c .before .before .before .before .before .before .before in
+    let start = entry (c .before) in
     omega (arith, steps-high (start .args .g) (start .args .d) (start .pre))
 
 second-half : tie.Need-returns-5

@@ -43,11 +43,23 @@ missed q h no4 =
     let n128 : q ≡ 128 → ⊥ = λ e. no4 (inr (inr (inr (inr (inr e))))) in
     simp ne-eqb
 
+below-one : tie.Need-returns
+below-one c = small _ (c .if1 .taken)
+
+none-of-them : tie.Need-returns-2
+none-of-them c = missed _ (c .if2 .left) (c .before .before .match .rest .1)
+
+one-of-them : tie.Need-returns-3
+one-of-them c = found _ (c .match .keys1)
+
+one-or-two : tie.Need-returns-4
+one-or-two c = one-two _ (c .before .if1 .left) (c .if2 .taken)
+
 pub is-listed-spec : {M : Type 1} → statement M
 is-listed-spec =
     tie.close
     (tie.spec
-    (λ c. small _ (c .if1 .taken))
-    (λ c. missed _ (c .if2 .left) (c .before .before .match .rest .1))
-    (λ c. found _ (c .match .keys1))
-    (λ c. one-two _ (c .before .if1 .left) (c .if2 .taken)))
+    below-one
+    none-of-them
+    one-of-them
+    one-or-two)

@@ -5,10 +5,13 @@ use borrow.Author.Needs.{needs}
 use Rattle.geometry.proofs.banks.round_down.Statement.{statement}
 use Rattle.geometry.proofs.banks.round_down.Tie as tie
 
+at-most : tie.Need-mul-result
+at-most c = omega (arith, div-add-mod' (c .args .address) (c .args .unit))
+
 pub round-down-spec : {M : Type 1} → statement M
 round-down-spec =
     tie.close
     (tie.spec
     (λ c. search needs)
-    (λ c. omega (arith, div-add-mod' (c .args .address) (c .args .unit)))
+    at-most
     (λ c. search needs))

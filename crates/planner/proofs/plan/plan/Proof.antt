@@ -35,15 +35,19 @@ begins c =
     let within = sym (c .before .numbers-in-range .ensures) ∙ not-false _ (c .if1 .left) in
     (omega arith, within, refl, least-none (a .minute) (a .duration) (a .windows .now))
 
+-- the test of the loop, from that of a window
+abbrev testing : tie.After-window-in-range Inv-loop μ-loop → tie.In-loop Inv-loop μ-loop
+testing c = c .before .before .before
+
 window-declined : tie.Need-returns-2 Inv-loop μ-loop
 window-declined c =
     let out = sym (c .before .before .window-in-range .ensures) ∙ not-true _ (c .before .if2 .taken) in
-    let test = c .before .before .before .before .before in
+    let test = testing (c .before .before) in
     c .declined2 .ensures ∙ plan-out _ _ _ (window-out _ _ _ (test .before .loop .i) (test .loop-test .taken) out)
 
 -- the loop, and the entry, from a window that is in range
 abbrev looping : tie.Else2 Inv-loop μ-loop → tie.At-loop Inv-loop μ-loop
-looping c = c .before .before .before .before .before
+looping c = testing (c .before) .before
 
 abbrev entry : tie.Else2 Inv-loop μ-loop → tie.Start Inv-loop μ-loop
 entry c = looping c .before .before .before .before

@@ -3,6 +3,9 @@ use borrow.Author.Needs.{needs}
 use Rattle.yohrundel.proofs.request_calls.yohrundel_lanes_back.Statement.{statement}
 use Rattle.yohrundel.proofs.request_calls.yohrundel_lanes_back.Tie as tie
 
+answered : tie.Need-returns
+answered c = let e = c .before .before .before .lanes-back .ensures in (rw (c .number .ensures, e .0), e .1)
+
 pub yohrundel-lanes-back-spec : {M : Type 1} → statement M
 yohrundel-lanes-back-spec =
     tie.close
@@ -10,4 +13,4 @@ yohrundel-lanes-back-spec =
     (λ c κs. search needs)
     (λ c κs. search needs)
     (λ c. search needs)
-    (λ c. let e = c .before .before .before .lanes-back .ensures in (rw (c .number .ensures, e .0), e .1)))
+    answered)
