@@ -6,15 +6,24 @@ use crate::{ffi, Decline};
 #[repr(C)]
 #[derive(Clone, Copy, Debug, PartialEq, Eq, Hash)]
 pub struct Geometry {
-    /// Quads per row: 1, 2, 4, 8, 16, 32, 64 or 128.
+    /// Quads per row: one of [`Geometry::ROW_QUADS`].
     pub q: u32,
-    /// Boot pages per bank: 1 to 5.
+    /// Boot pages per bank: 1 to [`Geometry::MOST_BOOT_PAGES`].
     pub b: u32,
-    /// Program pages per bank: 1 to 128.
+    /// Program pages per bank: 1 to [`Geometry::MOST_PROGRAM_PAGES`].
     pub p: u32,
 }
 
 impl Geometry {
+    /// What Q may be.
+    pub const ROW_QUADS: [u32; 8] = [1, 2, 4, 8, 16, 32, 64, 128];
+
+    /// The most that B may be.
+    pub const MOST_BOOT_PAGES: u32 = 5;
+
+    /// The most that P may be.
+    pub const MOST_PROGRAM_PAGES: u32 = 128;
+
     /// The pages of a bank: N = B+P.
     ///
     /// # Errors

@@ -5,41 +5,40 @@ use std::fmt;
 use super::Culprit;
 use crate::Geometry;
 
-/// What the size Q may be.
-const ROW_QUADS: [u32; 8] = [1, 2, 4, 8, 16, 32, 64, 128];
-
 /// The most words of SRAM.
 const MOST_SRAM: usize = 16_384;
 
 /// A clause of decline 1: the first size that is outside its list or range, with its value.
 #[derive(Clone, Copy, Debug, PartialEq, Eq, Hash)]
 pub enum SizeClause {
-    /// Q is not 1, 2, 4, 8, 16, 32, 64 or 128.
+    /// Q is not one of [`Geometry::ROW_QUADS`].
     Q(u32),
-    /// B is not 1 to 5.
+    /// B is not 1 to [`Geometry::MOST_BOOT_PAGES`].
     B(u32),
-    /// P is not 1 to 128.
+    /// P is not 1 to [`Geometry::MOST_PROGRAM_PAGES`].
     P(u32),
 }
 
 /// The first size that is outside its list or range.
 pub fn size_clause(geometry: Geometry) -> Option<SizeClause> {
     let Geometry { q, b, p } = geometry;
-    if !ROW_QUADS.contains(&q) {
+    if !Geometry::ROW_QUADS.contains(&q) {
         return Some(SizeClause::Q(q));
     }
-    if !(1..=5).contains(&b) {
+    if !(1..=Geometry::MOST_BOOT_PAGES).contains(&b) {
         return Some(SizeClause::B(b));
     }
-    (!(1..=128).contains(&p)).then_some(SizeClause::P(p))
+    (!(1..=Geometry::MOST_PROGRAM_PAGES).contains(&p)).then_some(SizeClause::P(p))
 }
 
 impl fmt::Display for SizeClause {
     fn fmt(&self, f: &mut fmt::Formatter<'_>) -> fmt::Result {
         match self {
             SizeClause::Q(q) => write!(f, "Q is {q}, not 1, 2, 4, 8, 16, 32, 64 or 128"),
-            SizeClause::B(b) => write!(f, "B is {b}, not 1 to 5"),
-            SizeClause::P(p) => write!(f, "P is {p}, not 1 to 128"),
+            SizeClause::B(b) => write!(f, "B is {b}, not 1 to {}", Geometry::MOST_BOOT_PAGES),
+            SizeClause::P(p) => {
+                write!(f, "P is {p}, not 1 to {}", Geometry::MOST_PROGRAM_PAGES)
+            }
         }
     }
 }
