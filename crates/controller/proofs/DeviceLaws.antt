@@ -1,84 +1,25 @@
--- A step and a reset leave a possible device, and after a reset BFSWAP is the comparison.
+-- A reset leaves a possible device, and after it BFSWAP is the comparison.
 -- Assumes nothing.
 use mathlib.Core.Path.{_≡_, refl, _∙_}
-use mathlib.Core.Bool.{Bool, true, false, not, _&&_, or-false, and-false}
-use Prim.Native.Nat.{ℕ, _+_, _<_}
+use mathlib.Core.Bool.{Bool, true, false, _&&_, or-false, and-false}
+use Prim.Native.Nat.{ℕ}
 use native.Mathlib.Omega.{arith}
-use lib.Dec.{eqb, ltb, lit<}
+use lib.Dec.{eqb, lit<}
 use lib.Bits.{bitOr}
-use borrow.Author.Tests.{eqb-false, lt-ltb, ltb-true}
 use Rattle.words.specs.Word.{pick, bit, hasOf, clearOf}
 use Rattle.words.proofs.CaseLaws.{below-four}
-use Rattle.words.proofs.PickLaws.{pick-both, and-both}
+use Rattle.words.proofs.PickLaws.{pick-both}
 use Rattle.words.proofs.BitLaws.{bit-or, clear-bit, has-bit}
 use Rattle.words.proofs.MaskLaws.{Within, merge-within, or-within, clear-within}
 use Rattle.geometry.specs.declared.banks.Geometry.{Geometry}
 use Rattle.device.specs.declared.record.Device.{Device}
-use Rattle.device.specs.Registers.{WR, WRERR, LVDERR, BFSWAP, NVMERS}
+use Rattle.device.specs.Registers.{WR, LVDERR, BFSWAP, NVMERS}
 use Rattle.device.specs.Builders.{powerOn, withCon}
-use Rattle.device.specs.Record.{running, bfswap, opOf, noOperands}
-use Rattle.nvmop.specs.Operation.{launchedBeginsOf, lengthOf}
-use Rattle.common_declines.specs.Possible.{launchedFitsOf, nothingLaunchedOf, runningOf, restingOf, possibleOf}
-use Rattle.common_declines.proofs.PossibleLaws.{Implemented, Possible, possible, possible-test, same-rows, same-launched}
-use Rattle.device.specs.declared.answer.Answer.{Answer}
-use Rattle.flash.specs.Step.{advanced, endedOf, advanceOf}
+use Rattle.device.specs.Record.{running, bfswap}
+use Rattle.common_declines.specs.Possible.{launchedFitsOf, nothingLaunchedOf, restingOf, possibleOf}
+use Rattle.common_declines.proofs.PossibleLaws.{Implemented, Possible, possible, possible-test, same-rows}
 use Rattle.resets.specs.Reset.{resetConOf, resetDeviceOf}
 
--- ---- a step
-module _ (g : Geometry) (d : Device) (can : possibleOf g d ≡ true) (on : running d ≡ true) where
-  was : Possible g d
-  was = possible g d can
-
-  -- with WR = 0 and step number 0
-  rested : (con : ℕ) → Within 0xF0CF con → bit 15 con ≡ false → possibleOf g (endedOf d con) ≡ true
-  unfolding launchedFitsOf restingOf nothingLaunchedOf
-  rested con h off =
-      possible-test g (endedOf d con)
-      (record {
-        rows = same-launched _ noOperands (same-rows d con (d .keystep) 0 h (was .rows));
-        launched = refl;
-        always = was .always;
-        keys = was .keys;
-        runs = rw (has-bit 15 con ∙ off);
-      })
-
-  going : (eqb (d .step + 1) (lengthOf g (opOf d)) ≡ false) → possibleOf g (withCon d (d .nvmcon .0) (d .keystep) (d .step + 1)) ≡ true
-  unfolding runningOf
-  going more =
-      let s0 = and-both (eqb (d .keystep) 0) _ (rw on at (was .runs)) in
-      let s1 = and-both (hasOf (d .nvmcon .0) WRERR) _ (s0 .1) in
-      let s2 = and-both (not (hasOf (d .nvmcon .0) LVDERR)) _ (s1 .1) in
-      let s3 = and-both (launchedBeginsOf g d) (ltb (d .step) (lengthOf g (opOf d))) (s2 .1) in
-      let lt : d .step < lengthOf g (opOf d) = ltb-true _ _ (s3 .1) in
-      let ne : d .step + 1 ≡ lengthOf g (opOf d) → ⊥ = eqb-false _ _ more in
-      let next : d .step + 1 < lengthOf g (opOf d) = omega arith in
-      possible-test g (withCon d (d .nvmcon .0) (d .keystep) (d .step + 1))
-      (record {
-        rows = same-rows d _ (d .keystep) (d .step + 1) (was .rows .con) (was .rows);
-        launched = was .launched;
-        always = was .always;
-        keys = was .keys;
-        runs = rw (on, s0 .0, s1 .0, s2 .0, s3 .0, lt-ltb _ _ next);
-      })
-
-  pub advance-possible : (aborts : Bool) → possibleOf g (advanceOf g d aborts .device) ≡ true
-  unfolding advanceOf
-  advance-possible aborts =
-      pick-both P aborts (rested (clearOf (d .nvmcon .0) WR) (clear-within 0xF0CF _ WR (was .rows .con))
-      (clear-bit 15 (d .nvmcon .0) WR ∙ and-false (bit 15 (d .nvmcon .0))))
-      (go (eqb (d .step + 1) (lengthOf g (opOf d))) refl)
-    where
-      P : Answer → Type 0
-      P a = possibleOf g (a .device) ≡ true
-
-      go : (t : Bool) → eqb (d .step + 1) (lengthOf g (opOf d)) ≡ t
-          → P (pick t (advanced (endedOf d (clearOf (d .nvmcon .0) (WR + WRERR))) true)
-          (advanced (withCon d (d .nvmcon .0) (d .keystep) (d .step + 1)) false))
-      go true e = rested (clearOf (d .nvmcon .0) 0xA000) (clear-within 0xF0CF _ 0xA000 (was .rows .con))
-          (clear-bit 15 (d .nvmcon .0) 0xA000 ∙ and-false (bit 15 (d .nvmcon .0)))
-      go false e = going e
-
--- ---- a reset
 fresh-rows : Implemented powerOn
 fresh-rows =
     record {

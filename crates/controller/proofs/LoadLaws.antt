@@ -45,7 +45,7 @@ use Rattle.controller.specs.Loads.{Move, movesOf, worksOf, Loads, Given,
 use Rattle.controller.specs.Loads.Move.{work, load}
 use Rattle.controller.proofs.ChangeLaws.{other-register}
 use Rattle.controller.proofs.StoreLaws.{store-possible}
-use Rattle.controller.proofs.DeviceLaws.{advance-possible}
+use Rattle.flash.proofs.StepLaws.{advance-possible}
 use Rattle.controller.proofs.RunLaws.{by-store}
 use Rattle.controller.proofs.WriteLaws.{by-step}
 

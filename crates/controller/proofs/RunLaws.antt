@@ -28,7 +28,8 @@ use Rattle.device.specs.State.{State, state}
 use Rattle.controller.specs.Controller.{Operation, answerOf, transitionOf, runOf, BringsWord, BringWords, Sound}
 use Rattle.controller.specs.Controller.Operation.{store, registerRead, flashRead, step, reset}
 use Rattle.controller.proofs.StoreLaws.{store-possible, read-leaves-possible}
-use Rattle.controller.proofs.DeviceLaws.{advance-possible, reset-possible, reset-swap}
+use Rattle.controller.proofs.DeviceLaws.{reset-possible, reset-swap}
+use Rattle.flash.proofs.StepLaws.{advance-possible}
 use Rattle.controller.proofs.WriteLaws.{by-step, by-reason, by-reset}
 use Rattle.controller.proofs.ReadLaws.{by-flash-read}
 use Rattle.controller.proofs.KeepLaws.{keeps}

@@ -1,7 +1,9 @@
 // One step of the running operation.
-// What asks for Runs is no call of the device: its callers decide their decline first.
+// What asks for Runs, or that no decline applies, is no call of the device: its callers decide their decline first.
 ghost use mathlib.Core.Path.{_≡_};
+ghost use mathlib.Core.Bool.{true};
 ghost use lib.ListN.{length};
+ghost use Rattle.words.specs.Decline.{acceptedOf};
 ghost use Rattle.geometry.specs.Banks.{bankWordsOf};
 ghost use Rattle.device.specs.State.{lent, leaves};
 ghost use Rattle.flash.specs.Effect.{Runs};
@@ -90,20 +92,34 @@ pub fn step_effect(g: Geometry, d: Device, one: &[u32], two: &[u32], sram: &[u32
     StepEffect { answer, write }
 }
 
+// A step that is not declined, with its write. No call of the device: its callers judge the declines first.
+pub fn step_accepted(
+    g: Geometry,
+    d: Device,
+    one: &mut [u32],
+    two: &mut [u32],
+    sram: &[u32],
+) -> Answer
+    requires { ⌜ acceptedOf (stepDeclineOf g d (length (now one)) (length (now two)) (length (now sram))) ≡ true ⌝ }
+    ensures { λ r. ⌜ leaves r (one .exit) (two .exit) ≡ stepOf g (lent d (one .entry) (two .entry)) (now (sram .entry)) ⌝ }
+{
+    let e = step_effect(g, d, one, two, sram);
+    let write = e.write;
+    apply(one, two, write);
+    e.answer
+}
+
 // One step of the running operation.
 pub fn step(g: Geometry, d: Device, one: &mut [u32], two: &mut [u32], sram: &[u32]) -> Answer
     ensures { λ r. ⌜ leaves r (one .exit) (two .exit) ≡ stepOf g (lent d (one .entry) (two .entry)) (now (sram .entry)) ⌝ }
 {
     let decline = step_decline(g, d, one.len(), two.len(), sram.len());
-    if !decline.is_accepted() {
-        return Answer {
-            decline,
-            device: d,
-            event: false,
-        };
+    if decline.is_accepted() {
+        return step_accepted(g, d, one, two, sram);
     }
-    let e = step_effect(g, d, one, two, sram);
-    let write = e.write;
-    apply(one, two, write);
-    e.answer
+    Answer {
+        decline,
+        device: d,
+        event: false,
+    }
 }

@@ -5,15 +5,17 @@ ghost use lib.ListN.{length};
 ghost use Rattle.geometry.specs.Banks.{InRange, bankWordsOf};
 ghost use Rattle.map.specs.Windows.{locateOf};
 ghost use Rattle.words.specs.declared.decline.Decline.{Decline};
+ghost use Rattle.words.specs.Decline.{acceptedOf};
 ghost use Rattle.device.specs.State.{lent, after};
 ghost use Rattle.common_declines.specs.Possible.{possibleOf};
+ghost use Rattle.flash.specs.Step.{stepDeclineOf};
 ghost use Rattle.reads.specs.Read.{secondAtOf, freeOf, readableOf, flashReadDeclineOf, stepped, stepsOf, wordReadOf, reading, flashReadOf};
 use common_declines::common_decline::common_decline;
 use device::numbers::BOTH_ERASE;
 use device::record::Device;
 use device::registers::Nvmcon;
 use flash::effect::step_location;
-use flash::step::step;
+use flash::step::step_accepted;
 use geometry::banks::Geometry;
 use geometry::lent::Lent;
 use map::Location;
@@ -94,7 +96,7 @@ fn flash_read_decline(
     Decline::Accepted
 }
 
-// Steps with an SRAM while WR is set, at most `count` of them.
+// Steps with an SRAM while WR is set, at most `count` of them. None is declined: each leaves a possible device.
 fn steps(
     g: Geometry,
     d: Device,
@@ -103,13 +105,14 @@ fn steps(
     sram: &[u32],
     count: u32,
 ) -> Waited
+    requires { ⌜ acceptedOf (stepDeclineOf g d (length (now one)) (length (now two)) (length (now sram))) ≡ true ⌝ }
     ensures { λ r. ⌜ stepped (lent (r .device) (one .exit) (two .exit)) (r .event)
         ≡ stepsOf g (now (sram .entry)) count (lent d (one .entry) (two .entry)) ⌝ }
 {
     let mut device = d;
     let mut left = count;
     while 0 < left {
-        let a = step(g, device, one, two, sram);
+        let a = step_accepted(g, device, one, two, sram);
         device = a.device;
         if !has(device.nvmcon.0, Nvmcon::WR) {
             return Waited {

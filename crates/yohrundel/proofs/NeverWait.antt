@@ -14,7 +14,7 @@ use Rattle.protection.specs.Protection.{protectedOf}
 use Rattle.common_declines.specs.CommonDecline.{commonDeclineOf}
 use Rattle.common_declines.specs.Possible.{possibleOf}
 use Rattle.flash.specs.Step.{advanceOf}
-use Rattle.controller.proofs.DeviceLaws.{advance-possible}
+use Rattle.flash.proofs.StepLaws.{advance-possible}
 use Rattle.controller.proofs.KeepLaws.{cleared-bit}
 use Rattle.controller.proofs.WaitLaws.{ended-idle}
 use Rattle.bank_parts.specs.Parts.{lowerBankDeclineOf, lowerBankOf, pageDeclineOf, pagePartOf}

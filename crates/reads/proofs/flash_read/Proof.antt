@@ -11,6 +11,7 @@ use Rattle.words.proofs.DeclineLaws.{went-on}
 use Rattle.map.specs.Windows.{locateOf}
 use Rattle.common_declines.proofs.CommonDeclineLaws.{Ready}
 use Rattle.flash.proofs.AcceptedLaws.{runs}
+use Rattle.flash.proofs.StepLaws.{step-accepts}
 use Rattle.reads.specs.Read.{secondAtOf, freeOf, flashReadDeclineOf, flashReadOf}
 use Rattle.reads.proofs.AcceptedLaws.{read-ready}
 use Rattle.reads.proofs.StepsLaws.{worked-on}
@@ -85,9 +86,18 @@ remaining c =
     let run = runs (a .g) (a .d) (r .lent .range) (r .possible) (worked-on (a .g) (a .d) _ (busy test)) in
     rw (count .length .ensures, count .before .op .ensures) (omega (arith, run .below))
 
+-- the second test, from the call of steps
+abbrev at-busy : tie.After-steps-arg2 → tie.Else2
+at-busy c = c .before .before .before .before .before
+
+accepts : tie.Need-steps-requires
+accepts c κs =
+    let test = at-busy c in
+    step-accepts _ _ _ _ _ (ready (from-busy test) .0) (worked-on _ _ _ (busy test))
+
 -- the second test, from the steps
 abbrev before-steps : tie.After-steps → tie.Else2
-before-steps c = c .before .before .before .before .before .before
+before-steps c = at-busy (c .before)
 
 -- the steps, from the read after them
 abbrev after-steps : tie.After-given-arg4 → tie.After-steps
@@ -132,7 +142,7 @@ flash-read-spec =
     (λ c κs. search needs)
     counted
     remaining
-    (λ c κs. search needs)
+    accepts
     still-whole
     (λ c. search needs)
     (λ c. search needs)
