@@ -102,9 +102,12 @@ fn version() {
 }
 
 /// The crate's declarations of the archives' functions that a device goes through.
-const DECLARED: [&str; 2] = [
-    include_str!("../src/ffi.rs"),
+const DECLARED: [&str; 5] = [
+    include_str!("../src/ffi/banks.rs"),
+    include_str!("../src/ffi/device.rs"),
+    include_str!("../src/ffi/play.rs"),
     include_str!("../src/ffi/sheet.rs"),
+    include_str!("../src/ffi/update.rs"),
 ];
 
 /// Each call by its name, with the symbol that the header gives it instead.
