@@ -23,7 +23,7 @@ Inv-loop g row n queue last full store image sram i₀ i =
 abbrev μ-loop : tie.MeasureT-loop
 μ-loop g row n queue last full store image sram i₀ i = n - i
 
--- ---- the arguments, the test, how the record stands
+-- ---- the arguments, the test
 
 abbrev entry : tie.At-loop Inv-loop μ-loop → tie.Start Inv-loop μ-loop
 entry c = c .before .before .before .before

@@ -19,10 +19,13 @@ Inv-loop g n store image sram signs numbers count p₀ p =
 abbrev μ-loop : tie.MeasureT-loop
 μ-loop g n store image sram signs numbers count p₀ p = count - p
 
--- ---- the arguments, the test, the look
+-- ---- the row's signs as they are taken, the arguments, the test
+
+abbrev taken : tie.At-loop Inv-loop μ-loop → tie.After-signs Inv-loop μ-loop
+taken c = c .before .before .before
 
 abbrev entry : tie.At-loop Inv-loop μ-loop → tie.Start Inv-loop μ-loop
-entry c = c .before .before .before .before .before .before .before
+entry c = taken c .before .before .before .before
 
 abbrev test : tie.After-look-at Inv-loop μ-loop → tie.In-loop Inv-loop μ-loop
 test c = c .before .before

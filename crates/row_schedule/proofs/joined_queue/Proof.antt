@@ -30,10 +30,13 @@ Inv-loop g row n queue last full found store image sram waiting₀ j₀ waiting 
 abbrev μ-loop : tie.MeasureT-loop
 μ-loop g row n queue last full found store image sram waiting₀ j₀ waiting j = n - j
 
--- ---- the arguments, the test, how the record stands
+-- ---- the queue before it is copied, the arguments, the test
+
+abbrev counted : tie.At-loop Inv-loop μ-loop → tie.After-struct-known Inv-loop μ-loop
+counted c = c .before .before
 
 abbrev entry : tie.At-loop Inv-loop μ-loop → tie.Start Inv-loop μ-loop
-entry c = c .before .before .before .before .before .before
+entry c = counted c .before .before .before .before
 
 abbrev test : tie.After-stand-of Inv-loop μ-loop → tie.In-loop Inv-loop μ-loop
 test c = c .before

@@ -7,22 +7,30 @@ use Rattle.row_schedule.proofs.ServeLaws.{sign-served}
 use Rattle.row_schedule.proofs.serve_choice.Statement.{statement}
 use Rattle.row_schedule.proofs.serve_choice.Tie as tie
 
+-- ---- the arguments, and the test, from where a sign is handed over to be served
+
+abbrev entry : tie.After-queue → tie.Start
+entry c = c .before .before .before .before
+
+abbrev test : tie.After-serve-arg2 → tie.Else1
+test c = c .before .before .before
+
 nobody : tie.Need-returns
 unfolding servingOf
 nobody c = rw (c .no-sign .ensures, le-ltb _ _ (c .before .if1 .taken))
 
 lies : tie.Need-serve-requires
 lies c κs =
-    let start = c .before .before .before .before .before .before .before .before in
-    (start .pre .0, start .pre .1 .1 _ (omega (arith, c .before .before .before .if1 .left)))
+    let start = entry (test c .before) in
+    (start .pre .0, start .pre .1 .1 _ (omega (arith, test c .if1 .left)))
 
 somebody : tie.Need-returns-2
 somebody c =
     let turned = c .before .before .before in
-    let start = turned .before .before .before .before .before .before .before .before .before in
-    let a = start .args in
+    let chosen = test (turned .before) in
+    let a = entry (chosen .before) .args in
     sign-served (a .g) (a .row .signs) (a .n) (a .choice) (a .last) (a .store .now) (a .image .now) (a .sram .now) (turned .serve .result) _
-    (turned .serve .ensures) (omega (arith, turned .before .before .before .before .if1 .left))
+    (turned .serve .ensures) (omega (arith, chosen .if1 .left))
 
 pub serve-choice-spec : {M : Type 1} → statement M
 serve-choice-spec =

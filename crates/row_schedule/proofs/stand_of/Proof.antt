@@ -11,7 +11,8 @@ unfolding standOf
 as-looked c =
     let listed = c .before .before in
     let looked = listed .before .before in
-    let a = looked .before .before .before .before .before .before .args in
+    let signs = looked .before .before in
+    let a = signs .before .before .before .before .args in
     rw (listed .is-listed .ensures ∙ listed-waits (a .queue) (a .j), looked .look-at .ensures)
 
 pub stand-of-spec : {M : Type 1} → statement M

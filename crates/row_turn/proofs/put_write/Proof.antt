@@ -11,20 +11,23 @@ nothing c =
     none-written (start .args .store .now) (start .args .one) (start .args .two) (start .args .words) (start .pre .0) (start .pre .1 .0) (start .args .w)
     (not-true _ (c .if1 .taken))
 
--- ---- the arguments, and the first test from each of the two writes
+-- ---- the arguments, the first test, and the second from each of the two writes
 
 abbrev entry : tie.Else1 → tie.Start
 entry c = c .before .before .before
 
-abbrev from-second : tie.After-put-quad → tie.Else1
-from-second c = c .before .before .before .before .before
+abbrev to-write : tie.After-four → tie.Else1
+to-write c = c .before .before
 
-abbrev from-first : tie.After-put-quad2 → tie.Else1
-from-first c = c .before .before .before .before .before
+abbrev into-second : tie.After-put-quad → tie.Then2
+into-second c = c .before .before
+
+abbrev into-first : tie.After-put-quad2 → tie.Else2
+into-first c = c .before .before
 
 second-fits : tie.Need-put-quad-requires
 second-fits c κs =
-    let test = c .before .before .before .before in
+    let test = to-write (c .before .before) in
     let start = entry test in
     let a = start .args in
     fits-part (a .store .now) (a .two) (a .words) _ _ (cancel (a .two) (a .words))
@@ -32,7 +35,7 @@ second-fits c κs =
 
 first-fits : tie.Need-put-quad-requires-2
 first-fits c κs =
-    let test = c .before .before .before .before in
+    let test = to-write (c .before .before) in
     let start = entry test in
     let a = start .args in
     fits-part (a .store .now) (a .one) (a .words) _ _ (cancel (a .one) (a .words))
@@ -41,21 +44,21 @@ first-fits c κs =
 second : tie.Need-returns-2
 second c =
     let put = c .before .before in
-    let test = from-second put in
+    let test = to-write (into-second put .before) in
     let start = entry test in
     let a = start .args in
     second-written (a .store .now) (a .one) (a .two) (a .words) (start .pre .0) (start .pre .1 .0) (a .w)
-    (not-false _ (test .if1 .left)) (put .before .before .if2 .taken) _ _ (cancel (a .two) (a .words))
+    (not-false _ (test .if1 .left)) (into-second put .if2 .taken) _ _ (cancel (a .two) (a .words))
     (put .put-quad .ensures)
 
 first : tie.Need-returns-3
 first c =
     let put = c .before .before in
-    let test = from-first put in
+    let test = to-write (into-first put .before) in
     let start = entry test in
     let a = start .args in
     first-written (a .store .now) (a .one) (a .two) (a .words) (start .pre .0) (start .pre .1 .0) (start .pre .1 .1 .0) (a .w)
-    (not-false _ (test .if1 .left)) (put .before .before .if2 .left) _ _ (cancel (a .one) (a .words))
+    (not-false _ (test .if1 .left)) (into-first put .if2 .left) _ _ (cancel (a .one) (a .words))
     (put .put-quad2 .ensures)
 
 pub put-write-spec : {M : Type 1} → statement M

@@ -6,7 +6,8 @@ use Rattle.row_turn.proofs.sign_effect.Tie as tie
 
 as-turned : tie.Need-returns
 as-turned c =
-    let words = c .before .before .before .before .before .before in
+    let device = c .before .before .before in
+    let words = device .before .before .before in
     let a = words .before .before .before .before .args in
     effect-on (a .g) (a .store .now) (a .image .now) (a .sram .now) (a .s) (c .turn-effect .result) (words .bank-words .result) (words .bank-words .ensures)
     (c .turn-effect .ensures)
