@@ -13,7 +13,7 @@ use Rattle.row_signs.specs.declared.queue.Queue.{Queue}
 use Rattle.row_signs.specs.Signs.{signAt, waitingOf, queueOf, waitsOf}
 use Rattle.update.specs.Turn.{Turning}
 use Rattle.row_turn.specs.SignTurn.{signTurnOf}
-use Rattle.row_schedule.specs.declared.ScheduleAnswer.{ScheduleAnswer}
+use Rattle.row_schedule.specs.declared.answer.ScheduleAnswer.{ScheduleAnswer}
 use Rattle.row_schedule.specs.Schedule.{Scheduling, scheduleRowOf}
 
 -- the list of sign records, the queue and the record last served beside it, and the store

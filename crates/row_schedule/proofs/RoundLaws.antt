@@ -15,10 +15,11 @@ use Rattle.row_signs.specs.Signs.{waitingOf, queueOf}
 use Rattle.row_queue.specs.Waiting.{withoutOf}
 use Rattle.row_queue.proofs.QueueLaws.{entries-length}
 use Rattle.row_choice.specs.Choice.{recordsOf, metOf, beforeOf, Known, fullOf, readyOf, fromQueueOf, servedOf, waitersOf}
-use Rattle.row_schedule.specs.declared.Stand.{Stand}
-use Rattle.row_schedule.specs.declared.Choice.{Choice}
+use Rattle.row_schedule.specs.declared.round.Stand.{Stand}
+use Rattle.row_schedule.specs.declared.choice.Choice.{Choice}
 use Rattle.row_schedule.proofs.ChoiceLaws.{entry-is}
-use Rattle.row_schedule.specs.Schedule.{knownOf, standOf, roundOf, choiceOf}
+use Rattle.row_schedule.specs.Round.{standOf, roundOf}
+use Rattle.row_schedule.specs.Schedule.{knownOf, choiceOf}
 
 module _ (signs : List Sign) (n : ℕ) (queue : Queue) (last : ℕ) (stand : ℕ → Stand) (found : ℕ)
     (is : found ≡ firstFrom (λ i. stand (metOf n last i) .free && not (stand (metOf n last i) .held)) 0 n)

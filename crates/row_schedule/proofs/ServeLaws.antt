@@ -16,8 +16,9 @@ use Rattle.row_judge.specs.Judge.{rowDeclineOf, Judged}
 use Rattle.row_judge.proofs.JudgeLaws.{stands}
 use Rattle.row_turn.specs.declared.SignTurned.{SignTurned}
 use Rattle.row_turn.specs.SignTurn.{SignTurning, signTurning, signTurningOf, RowLies}
-use Rattle.row_schedule.specs.declared.Choice.{Choice}
-use Rattle.row_schedule.specs.Schedule.{knownOf, EntriesIn, EntriesApart, choiceOf, Scheduling, scheduling, served, servedSign}
+use Rattle.row_schedule.specs.declared.choice.Choice.{Choice}
+use Rattle.row_schedule.specs.Round.{EntriesIn, EntriesApart}
+use Rattle.row_schedule.specs.Schedule.{knownOf, choiceOf, Scheduling, scheduling, served, servedSign}
 use Rattle.row_schedule.specs.Schedule.{servingOf, scheduleRowOf}
 
 pub sign-served : (g : Geometry) (signs : List Sign) (n : ℕ) (choice : Choice) (last : ℕ) (store image sram : List ℕ) (turned : SignTurned) (after : List ℕ)

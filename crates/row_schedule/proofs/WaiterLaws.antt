@@ -18,7 +18,7 @@ use Rattle.row_choice.specs.Choice.{countOf, recordsOf}
 use Rattle.row_choice.proofs.RecordsLaws.{records-count, count-rises}
 use Rattle.row_choice.proofs.SoundLaws.{Sound, begin-room}
 use Rattle.row_turn.specs.SignTurn.{lookOf}
-use Rattle.row_schedule.specs.Schedule.{standOf, EntriesIn, EntriesApart}
+use Rattle.row_schedule.specs.Round.{standOf, EntriesIn, EntriesApart}
 use Rattle.row_schedule.proofs.ChoiceLaws.{counted, entry-is}
 
 -- the entries of a queue that was judged

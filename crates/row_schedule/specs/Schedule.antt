@@ -1,24 +1,22 @@
 -- W-206: one call for a row of signs. Assumes nothing.
-use Prim.Native.Nat.{ℕ, _<_}
-use mathlib.Core.Bool.{Bool, true, false, not, _&&_}
-use mathlib.Core.Path.{_≡_}
-use mathlib.Core.List.{List, _++_}
+use Prim.Native.Nat.{ℕ}
+use mathlib.Core.Bool.{Bool, true, false}
+use mathlib.Core.List.{List}
 use lib.Dec.{ltb}
-use lib.ListN.{length, getD}
-use Rattle.words.specs.Word.{pick, firstFrom}
+use lib.ListN.{length}
+use Rattle.words.specs.Word.{pick}
 use Rattle.words.specs.declared.decline.Decline.{Decline}
 use Rattle.words.specs.Decline.{numberOf, acceptedOf}
 use Rattle.geometry.specs.declared.banks.Geometry.{Geometry}
 use Rattle.device.specs.Record.{running}
 use Rattle.row_signs.specs.declared.sign.Sign.{Sign}
 use Rattle.row_signs.specs.declared.queue.Queue.{Queue}
-use Rattle.row_signs.specs.Signs.{noSign, signAt, waitingOf, queueOf, waitsOf}
+use Rattle.row_signs.specs.Signs.{noSign, signAt, waitingOf, queueOf}
 use Rattle.row_judge.specs.Judge.{rowDeclineOf}
 use Rattle.row_turn.specs.SignTurn.{lookOf, SignTurning, signTurningOf}
-use Rattle.row_schedule.specs.declared.Stand.{Stand}
-use Rattle.row_schedule.specs.declared.Choice.{Choice}
-use Rattle.row_schedule.specs.declared.ScheduleAnswer.{ScheduleAnswer}
-use Rattle.row_choice.specs.Choice.{countOf, recordsOf, metOf, beforeOf, Known, servedOf, waitersOf}
+use Rattle.row_choice.specs.Choice.{countOf, Known, servedOf, waitersOf}
+use Rattle.row_schedule.specs.declared.answer.ScheduleAnswer.{ScheduleAnswer}
+use Rattle.row_schedule.specs.declared.choice.Choice.{Choice}
 
 -- what is known of the first n records of a list: WR is counted by the bit, whatever the record
 abbrev pub knownOf : Geometry → ℕ → List Sign → ℕ → Queue → ℕ → List ℕ → List ℕ → List ℕ → Known
@@ -31,29 +29,6 @@ knownOf g k signs n queue last store image sram =
       sets = λ j. lookOf g store image sram (signAt signs j) .sets;
       waiting = waitingOf queue;
       last = last;
-    }
-
--- of record j, where K or more are set or not: "unfinished and not waiting", and not passed over; "whose turn would set WR while K or more are set"
-unfoldable pub standOf : Geometry → List Sign → Queue → Bool → List ℕ → List ℕ → List ℕ → ℕ → Stand
-standOf g signs queue full store image sram j =
-    let l = lookOf g store image sram (signAt signs j) in
-    record { free = l .can && not (waitsOf (waitingOf queue) j); held = l .sets && full }
-
--- each entry of the queue is one of the first n records: what the functions below ask for
-abbrev pub EntriesIn : Queue → ℕ → Type 0
-EntriesIn queue n = (p : ℕ) → p < queue .count → getD (queue .numbers) p 0 < n
-
--- and none stands there twice
-abbrev pub EntriesApart : Queue → Type 0
-EntriesApart queue = (p q : ℕ) → p < q → q < queue .count → getD (queue .numbers) p 0 ≡ getD (queue .numbers) q 0 → ⊥
-
--- the search round the list, by how each record stands: the record that it serves, n where it serves none; and who waits then
-abbrev pub roundOf : List Sign → ℕ → Queue → ℕ → (ℕ → Stand) → Choice
-roundOf signs n queue last stand =
-    let found = firstFrom (λ i. stand (metOf n last i) .free && not (stand (metOf n last i) .held)) 0 n in
-    record {
-      served = pick (ltb found n) (metOf n last found) n;
-      queue = queueOf (waitingOf queue ++ recordsOf (λ j. ltb (beforeOf n last j) found && (stand j .free && stand j .held)) n);
     }
 
 -- the choice as a whole

@@ -28,7 +28,7 @@ use Rattle.row_choice.specs.Choice.{countOf, recordsOf, metOf, Known, readyOf, 
 use Rattle.row_choice.proofs.RoundLaws.{met-below}
 use Rattle.row_choice.proofs.SoundLaws.{Sound}
 use Rattle.row_turn.specs.SignTurn.{lookOf, signTurningOf}
-use Rattle.row_schedule.specs.declared.Choice.{Choice}
+use Rattle.row_schedule.specs.declared.choice.Choice.{Choice}
 use Rattle.row_schedule.specs.Schedule.{knownOf, choiceOf, scheduling, declined, servedSign, servingOf, scheduleRowOf}
 use Rattle.row_schedule.proofs.WaiterLaws.{judged-sound}
 use Rattle.row_list.specs.List.{atMost, gathered}

@@ -5,7 +5,7 @@ use lib.ListN.{length, set}
 use Rattle.geometry.specs.declared.banks.Geometry.{Geometry}
 use Rattle.row_signs.specs.declared.sign.Sign.{Sign}
 use Rattle.row_signs.specs.declared.queue.Queue.{Queue}
-use Rattle.row_schedule.specs.declared.ScheduleAnswer.{ScheduleAnswer}
+use Rattle.row_schedule.specs.declared.answer.ScheduleAnswer.{ScheduleAnswer}
 use Rattle.row_schedule.specs.Schedule.{Scheduling, scheduleRowOf}
 
 -- the list, the store and the answer

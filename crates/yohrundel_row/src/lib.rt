@@ -5,7 +5,7 @@ use geometry::banks::Geometry;
 use row_list::few;
 use row_list::gather;
 use row_list::keep_sign;
-use row_schedule::ScheduleAnswer;
+use row_schedule::answer::ScheduleAnswer;
 use row_schedule::schedule_row;
 use row_signs::queue::Queue;
 use row_signs::sign::Sign;

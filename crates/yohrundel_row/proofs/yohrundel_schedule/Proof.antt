@@ -72,13 +72,13 @@ use Rattle.row_list.proofs.keep_sign as keep-sign
 use Rattle.row_list.proofs.keep_sign.Symbol as keep-sign-def
 use Rattle.row_list.proofs.keep_sign.Symbol.{name as #row-list·keep-sign}
 use Rattle.row_list.proofs.keep_sign.Met as keep-sign-thm
-use Rattle.row_schedule.specs.declared.ScheduleAnswer.{ScheduleAnswer}
-use Rattle.row_schedule.specs.declared.Scheduled.{Scheduled}
+use Rattle.row_schedule.specs.declared.answer.ScheduleAnswer.{ScheduleAnswer}
+use Rattle.row_schedule.specs.declared.answer.Scheduled.{Scheduled}
 use Rattle.row_schedule.specs.Schedule.{scheduling, scheduleRowOf}
-use Rattle.row_schedule.proofs.ScheduleAnswer as B
-use Rattle.row_schedule.proofs.ScheduleAnswer.Laws as B′
-use Rattle.row_schedule.proofs.Scheduled as D
-use Rattle.row_schedule.proofs.Scheduled.Laws as D′
+use Rattle.row_schedule.proofs.answer.ScheduleAnswer as B
+use Rattle.row_schedule.proofs.answer.ScheduleAnswer.Laws as B′
+use Rattle.row_schedule.proofs.answer.Scheduled as D
+use Rattle.row_schedule.proofs.answer.Scheduled.Laws as D′
 use Rattle.row_schedule.proofs.schedule_row as schedule-row
 use Rattle.row_schedule.proofs.schedule_row.Symbol as schedule-row-def
 use Rattle.row_schedule.proofs.schedule_row.Symbol.{name as #row-schedule·schedule-row}

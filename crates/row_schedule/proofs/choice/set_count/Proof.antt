@@ -9,8 +9,8 @@ use Rattle.device.specs.Record.{running}
 use Rattle.row_signs.specs.Signs.{signAt}
 use Rattle.row_choice.specs.Choice.{countOf}
 use Rattle.row_schedule.proofs.ChoiceLaws.{counted, not-counted}
-use Rattle.row_schedule.proofs.set_count.Statement.{statement}
-use Rattle.row_schedule.proofs.set_count.Tie as tie
+use Rattle.row_schedule.proofs.choice.set_count.Statement.{statement}
+use Rattle.row_schedule.proofs.choice.set_count.Tie as tie
 
 abbrev Inv-loop : tie.InvT-loop
 Inv-loop n signs count₀ i₀ count i = (i ≤ n) × (count ≡ countOf (λ j. running (signAt signs j .device)) i) × (count ≤ i)

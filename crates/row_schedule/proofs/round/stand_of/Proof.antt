@@ -1,10 +1,10 @@
 -- What the look tells, and whether the record waits.
 use borrow.Author.Needs.{needs}
 use mathlib.Core.Path.{_∙_}
-use Rattle.row_schedule.specs.Schedule.{standOf}
+use Rattle.row_schedule.specs.Round.{standOf}
 use Rattle.row_schedule.proofs.ChoiceLaws.{listed-waits}
-use Rattle.row_schedule.proofs.stand_of.Statement.{statement}
-use Rattle.row_schedule.proofs.stand_of.Tie as tie
+use Rattle.row_schedule.proofs.round.stand_of.Statement.{statement}
+use Rattle.row_schedule.proofs.round.stand_of.Tie as tie
 
 as-looked : tie.Need-returns
 unfolding standOf

@@ -9,8 +9,8 @@ use Rattle.row_signs.specs.declared.queue.Queue.{Queue}
 use Rattle.row_choice.specs.Choice.{Known, fullOf}
 use Rattle.row_schedule.specs.Schedule.{knownOf}
 use Rattle.row_schedule.proofs.RoundLaws.{by-round, by-queue, full-none, ready-none, ready-some}
-use Rattle.row_schedule.proofs.choose.Statement.{statement}
-use Rattle.row_schedule.proofs.choose.Tie as tie
+use Rattle.row_schedule.proofs.choice.choose.Statement.{statement}
+use Rattle.row_schedule.proofs.choice.choose.Tie as tie
 
 -- ---- the arguments, and whether K or more are set
 

@@ -5,12 +5,12 @@ use mathlib.Core.Path.{_≡_, sym, ap, _∙_}
 use native.Mathlib.Nat.{mod-lt}
 use native.Mathlib.Omega.{arith}
 use Rattle.words.proofs.FirstLaws.{first-is}
-use Rattle.row_schedule.specs.declared.Stand.{Stand}
+use Rattle.row_schedule.specs.declared.round.Stand.{Stand}
 use Rattle.row_choice.specs.Choice.{metOf}
-use Rattle.row_schedule.specs.Schedule.{standOf}
+use Rattle.row_schedule.specs.Round.{standOf}
 use Rattle.row_schedule.proofs.ChoiceLaws.{none-more}
-use Rattle.row_schedule.proofs.first_found.Statement.{statement}
-use Rattle.row_schedule.proofs.first_found.Tie as tie
+use Rattle.row_schedule.proofs.round.first_found.Statement.{statement}
+use Rattle.row_schedule.proofs.round.first_found.Tie as tie
 
 -- a record that is served where it is met
 abbrev passes : Stand → Bool

@@ -9,8 +9,8 @@ use Rattle.row_signs.specs.Signs.{signAt}
 use Rattle.row_turn.specs.declared.Look.{Look}
 use Rattle.row_turn.specs.SignTurn.{lookOf}
 use Rattle.row_schedule.proofs.ChoiceLaws.{first-entry, none-more}
-use Rattle.row_schedule.proofs.first_ready.Statement.{statement}
-use Rattle.row_schedule.proofs.first_ready.Tie as tie
+use Rattle.row_schedule.proofs.choice.first_ready.Statement.{statement}
+use Rattle.row_schedule.proofs.choice.first_ready.Tie as tie
 
 abbrev Inv-loop : tie.InvT-loop
 Inv-loop g n store image sram signs numbers count p₀ p =

@@ -12,12 +12,12 @@ use Rattle.row_signs.specs.declared.queue.Queue.{Queue}
 use Rattle.row_signs.specs.Signs.{waitingOf, queueOf, waitsOf}
 use Rattle.row_choice.specs.Choice.{recordsOf, beforeOf}
 use Rattle.row_choice.proofs.SoundLaws.{Sound}
-use Rattle.row_schedule.specs.declared.Stand.{Stand}
-use Rattle.row_schedule.specs.Schedule.{standOf}
+use Rattle.row_schedule.specs.declared.round.Stand.{Stand}
+use Rattle.row_schedule.specs.Round.{standOf}
 use Rattle.row_schedule.proofs.WaiterLaws.{Joining, judged-sound, joining-starts, joining-room, joining-next, joining-passed}
 use Rattle.row_schedule.proofs.WaiterLaws.{begins-new}
-use Rattle.row_schedule.proofs.joined_queue.Statement.{statement}
-use Rattle.row_schedule.proofs.joined_queue.Tie as tie
+use Rattle.row_schedule.proofs.round.joined_queue.Statement.{statement}
+use Rattle.row_schedule.proofs.round.joined_queue.Tie as tie
 
 -- a record that begins to wait: met before the one that is served
 abbrev begins : Stand → ℕ → ℕ → ℕ → ℕ → Bool

@@ -1,10 +1,10 @@
 -- The search, and who began to wait before it ended.
 use borrow.Author.Needs.{needs}
 use native.Mathlib.Omega.{arith}
-use Rattle.row_schedule.specs.Schedule.{standOf}
+use Rattle.row_schedule.specs.Round.{standOf}
 use Rattle.row_schedule.proofs.RoundLaws.{none-found, one-found}
-use Rattle.row_schedule.proofs.from_round.Statement.{statement}
-use Rattle.row_schedule.proofs.from_round.Tie as tie
+use Rattle.row_schedule.proofs.choice.from_round.Statement.{statement}
+use Rattle.row_schedule.proofs.choice.from_round.Tie as tie
 
 abbrev entry : tie.After-first-found → tie.Start
 entry c = c .before .before .before .before
