@@ -19,6 +19,11 @@ records-count p (suc n) = length-append (recordsOf p n) (pick (p n) (n ∷ []) [
     go true e = omega arith
     go false e = omega arith
 
+-- of two tests that agree below n they are the same
+pub records-same : (p q : ℕ → Bool) (n : ℕ) → ((j : ℕ) → j < n → p j ≡ q j) → recordsOf p n ≡ recordsOf q n
+records-same p q zero same = refl
+records-same p q (suc n) same = rw (records-same p q n (λ j l. same j (omega arith)), same n (omega arith)) refl
+
 -- of more records no fewer are counted
 pub count-rises : (p : ℕ → Bool) (i n : ℕ) → i ≤ n → countOf p i ≤ countOf p n
 count-rises p i n l = le-ind {n = i} (λ m. countOf p i ≤ countOf p m) (omega arith) (λ m up earlier. omega arith) n l

@@ -110,13 +110,15 @@ records-sound p n =
     record { below = r .below; apart = λ i j less inside e. let up = r .rising i j less inside in omega (arith, up, e) }
 
 -- those that don't wait join
-begin-sound : (l : List ℕ) (p : ℕ → Bool) (n : ℕ) → Sound l n → ((j : ℕ) → p j ≡ true → waitsOf l j ≡ false) → Sound (l ++ recordsOf p n) n
+begin-sound : (l : List ℕ) (p : ℕ → Bool) (n : ℕ) → Sound l n → ((j : ℕ) → j < n → p j ≡ true → waitsOf l j ≡ false) → Sound (l ++ recordsOf p n) n
 begin-sound l p n s new =
     joined-sound l (recordsOf p n) n s (records-sound p n)
-    (λ i j inside h e. not-waits l (getD (recordsOf p n) j 0) i (new (getD (recordsOf p n) j 0) (records-rising p n .holds j h)) inside e)
+    (λ i j inside h e.
+    let r = records-rising p n in
+    not-waits l (getD (recordsOf p n) j 0) i (new (getD (recordsOf p n) j 0) (r .below j h) (r .holds j h)) inside e)
 
 -- and there is room for them
-pub begin-room : (l : List ℕ) (p : ℕ → Bool) (n : ℕ) → Sound l n → ((j : ℕ) → p j ≡ true → waitsOf l j ≡ false) → length l + countOf p n ≤ n
+pub begin-room : (l : List ℕ) (p : ℕ → Bool) (n : ℕ) → Sound l n → ((j : ℕ) → j < n → p j ≡ true → waitsOf l j ≡ false) → length l + countOf p n ≤ n
 begin-room l p n s new =
     omega (arith, sound-length (l ++ recordsOf p n) n (begin-sound l p n s new), length-append l (recordsOf p n), records-count p n)
 
@@ -144,7 +146,7 @@ waiters-sound r s = go (fromQueueOf r) refl
     go true e =
         let q = from-queue r e in
         rw (q .left) (left-sound (r .waiting) (r .n) (r .n) (readyOf r) s (q .ready) (λ p inside other. s .below p inside))
-    go false e = rw (nobody-leaves r e) (begin-sound (r .waiting) (beginsOf r) (r .n) s (begins-new r))
+    go false e = rw (nobody-leaves r e) (begin-sound (r .waiting) (beginsOf r) (r .n) s (λ j l. begins-new r j))
 
 -- ---- the one that is served does not wait then
 

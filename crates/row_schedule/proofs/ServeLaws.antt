@@ -1,5 +1,5 @@
 -- The record that is served, and what a call tells that is not declined. Assumes nothing.
-use Prim.Native.Nat.{ℕ, _<_, _≤_}
+use Prim.Native.Nat.{ℕ, _<_}
 use mathlib.Core.Path.{_≡_, ap, _∙_}
 use mathlib.Core.Bool.{true}
 use mathlib.Core.List.{List}
@@ -7,7 +7,6 @@ use lib.ListN.{length}
 use borrow.Author.Tests.{lt-ltb}
 use Rattle.words.specs.Decline.{acceptedOf}
 use Rattle.geometry.specs.declared.banks.Geometry.{Geometry}
-use Rattle.geometry.specs.Banks.{InRange}
 use Rattle.geometry.proofs.SizeLaws.{in-range}
 use Rattle.row_signs.specs.declared.sign.Sign.{Sign}
 use Rattle.row_signs.specs.declared.queue.Queue.{Queue}
@@ -15,9 +14,9 @@ use Rattle.row_signs.specs.Signs.{signAt}
 use Rattle.row_judge.specs.Judge.{rowDeclineOf, Judged}
 use Rattle.row_judge.proofs.JudgeLaws.{stands}
 use Rattle.row_turn.specs.declared.SignTurned.{SignTurned}
-use Rattle.row_turn.specs.SignTurn.{SignTurning, signTurning, signTurningOf, RowLies}
+use Rattle.row_turn.specs.SignTurn.{SignTurning, signTurning, signTurningOf}
 use Rattle.row_schedule.specs.declared.choice.Choice.{Choice}
-use Rattle.row_schedule.specs.Round.{EntriesIn, EntriesApart}
+use Rattle.row_schedule.specs.Round.{RowSound, QueueSound}
 use Rattle.row_schedule.specs.Schedule.{knownOf, choiceOf, Scheduling, scheduling, served, servedSign}
 use Rattle.row_schedule.specs.Schedule.{servingOf, scheduleRowOf}
 
@@ -35,19 +34,17 @@ module _ (g : Geometry) (k : ℕ) (signs : List Sign) (n : ℕ) (queue : Queue) 
   judged : Judged g k signs n queue last (length store) (length image) (length sram)
   judged = stands g k signs n queue last (length store) (length image) (length sram) accepted
 
-  pub row-lies : RowLies g store signs n
-  row-lies j l = record { first = judged .one-lies j l; other = judged .two-lies j l; apart = judged .own-apart j l }
+  pub row-sound : RowSound g store signs n
+  row-sound =
+      record {
+        range = in-range g (judged .listed);
+        some = judged .n-low;
+        few = judged .n-high;
+        lies = λ j l. record { first = judged .one-lies j l; other = judged .two-lies j l; apart = judged .own-apart j l };
+      }
 
-  pub asks : InRange g
-      × (((0 < n) × (n ≤ 32))
-      × ((last < n) × ((queue .count ≤ 32) × (EntriesIn queue n × (EntriesApart queue × RowLies g store signs n)))))
-  asks = (
-    in-range g (judged .listed),
-    (
-      (judged .n-low, judged .n-high),
-      (judged .last-below, (judged .count-high, (judged .entry-below, (judged .entries-differ, row-lies)))),
-    ),
-  )
+  pub queue-sound : QueueSound queue n × (last < n)
+  queue-sound = (record { room = judged .count-high; inside = judged .entry-below; apart = judged .entries-differ }, judged .last-below)
 
   -- the choice is served
   pub row-served : (choice : Choice) → choice ≡ choiceOf (knownOf g k signs n queue last store image sram) → (after : Scheduling)

@@ -3,12 +3,11 @@ ghost use mathlib.Core.Path.{_≡_};
 ghost use Prim.Native.Nat.{_≤_, _<_};
 ghost use lib.ListN.{length, getD};
 ghost use Rattle.words.specs.Word.{firstFrom};
-ghost use Rattle.geometry.specs.Banks.{InRange};
 ghost use Rattle.device.specs.Record.{running};
 ghost use Rattle.row_signs.specs.Signs.{signAt, waitingOf};
-ghost use Rattle.row_turn.specs.SignTurn.{lookOf, RowLies};
+ghost use Rattle.row_turn.specs.SignTurn.{lookOf};
 ghost use Rattle.row_choice.specs.Choice.{countOf};
-ghost use Rattle.row_schedule.specs.Round.{EntriesIn, EntriesApart, standOf, roundOf};
+ghost use Rattle.row_schedule.specs.Round.{RowSound, QueueSound, standsOf, roundOf};
 ghost use Rattle.row_schedule.specs.Schedule.{knownOf, choiceOf};
 use crate::round::first_found;
 use crate::round::joined_queue;
@@ -55,11 +54,8 @@ fn first_ready(
     image: &[u32],
     sram: &[u32],
 ) -> usize
-    requires { ⌜ InRange g ⌝ }
-    requires { ⌜ n ≤ 32 ⌝ }
-    requires { ⌜ queue .count ≤ 32 ⌝ }
-    requires { ⌜ EntriesIn queue n ⌝ }
-    requires { ⌜ RowLies g (now store) (row .signs) n ⌝ }
+    requires { ⌜ RowSound g (now store) (row .signs) n ⌝ }
+    requires { ⌜ QueueSound queue n ⌝ }
     ensures { λ r. ⌜ r ≡ firstFrom (λ p. lookOf g (now (store .entry)) (now (image .entry)) (now (sram .entry))
         (signAt (row .signs) (getD (waitingOf queue) p 0)) .can) 0 (length (waitingOf queue)) ⌝ }
 {
@@ -78,7 +74,7 @@ fn first_ready(
     count
 }
 
-// The record that the search serves, n where it serves none; and who waits then.
+// The choice as the search has it.
 fn from_round(
     g: Geometry,
     row: Row,
@@ -90,26 +86,16 @@ fn from_round(
     image: &[u32],
     sram: &[u32],
 ) -> Choice
-    requires { ⌜ InRange g ⌝ }
-    requires { ⌜ (0 < n) × (n ≤ 32) ⌝ }
+    requires { ⌜ RowSound g (now store) (row .signs) n ⌝ }
+    requires { ⌜ QueueSound queue n ⌝ }
     requires { ⌜ last < n ⌝ }
-    requires { ⌜ queue .count ≤ 32 ⌝ }
-    requires { ⌜ EntriesIn queue n ⌝ }
-    requires { ⌜ EntriesApart queue ⌝ }
-    requires { ⌜ RowLies g (now store) (row .signs) n ⌝ }
-    ensures { λ r. ⌜ r ≡ roundOf (row .signs) n queue last
-        (standOf g (row .signs) queue full (now (store .entry)) (now (image .entry)) (now (sram .entry))) ⌝ }
+    ensures { λ r. ⌜ r ≡ roundOf n queue last (standsOf g (row .signs) queue full (now (store .entry)) (now (image .entry)) (now (sram .entry))) ⌝ }
 {
-    let found = first_found(g, row, n, queue, last, full, store, image, sram);
-    let waiting = joined_queue(g, row, n, queue, last, full, found, store, image, sram);
-    if n <= found {
-        return Choice {
-            served: n,
-            queue: waiting,
-        };
-    }
+    let round = first_found(g, row, n, queue, last, full, store, image, sram);
+    let begins = round.begins;
+    let waiting = joined_queue(queue, n, begins);
     Choice {
-        served: (last as usize + 1 + found) % n,
+        served: round.found,
         queue: waiting,
     }
 }
@@ -126,13 +112,9 @@ pub fn choose(
     image: &[u32],
     sram: &[u32],
 ) -> Choice
-    requires { ⌜ InRange g ⌝ }
-    requires { ⌜ (0 < n) × (n ≤ 32) ⌝ }
+    requires { ⌜ RowSound g (now store) (row .signs) n ⌝ }
+    requires { ⌜ QueueSound queue n ⌝ }
     requires { ⌜ last < n ⌝ }
-    requires { ⌜ queue .count ≤ 32 ⌝ }
-    requires { ⌜ EntriesIn queue n ⌝ }
-    requires { ⌜ EntriesApart queue ⌝ }
-    requires { ⌜ RowLies g (now store) (row .signs) n ⌝ }
     ensures { λ r. ⌜ r ≡ choiceOf (knownOf g k (row .signs) n queue last (now (store .entry)) (now (image .entry)) (now (sram .entry))) ⌝ }
 {
     let full = k <= set_count(row, n);

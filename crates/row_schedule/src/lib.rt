@@ -1,13 +1,11 @@
 // One call for a row of signs, its records by value.
-// What asks for InRange, for room or for parts of the store in this crate is no call of the row: schedule_row judges 1, 2 and 19 first.
+// What asks for a sound row or queue in this crate is no call of the row: schedule_row judges 1, 2 and 19 first.
 pub mod answer;
 mod choice;
 mod round;
 
 ghost use mathlib.Core.Path.{_≡_};
-ghost use Prim.Native.Nat.{_≤_};
-ghost use Rattle.geometry.specs.Banks.{InRange};
-ghost use Rattle.row_turn.specs.SignTurn.{RowLies};
+ghost use Rattle.row_schedule.specs.Round.{RowSound};
 ghost use Rattle.row_schedule.specs.Schedule.{servingOf, scheduling, scheduleRowOf};
 use crate::answer::ScheduleAnswer;
 use crate::answer::Scheduled;
@@ -31,9 +29,7 @@ fn serve_choice(
     image: &[u32],
     sram: &[u32],
 ) -> Scheduled
-    requires { ⌜ InRange g ⌝ }
-    requires { ⌜ n ≤ 32 ⌝ }
-    requires { ⌜ RowLies g (now store) (row .signs) n ⌝ }
+    requires { ⌜ RowSound g (now store) (row .signs) n ⌝ }
     ensures { λ r. ⌜ scheduling (r .number) (r .sign) (now (store .exit)) (r .answer)
         ≡ servingOf g (row .signs) n choice last (now (store .entry)) (now (image .entry)) (now (sram .entry)) ⌝ }
 {

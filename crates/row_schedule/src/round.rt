@@ -1,21 +1,21 @@
 // The search round the list: how a record stands, which one it serves, and who begins to wait.
 ghost use mathlib.Core.Path.{_≡_};
-ghost use mathlib.Core.Bool.{not, _&&_};
+ghost use mathlib.Core.Bool.{false};
 ghost use mathlib.Core.List.{_++_};
 ghost use Prim.Native.Nat.{_≤_, _<_};
-ghost use lib.Dec.{ltb};
-ghost use Rattle.words.specs.Word.{firstFrom};
+ghost use lib.ListN.{getD};
 ghost use Rattle.geometry.specs.Banks.{InRange};
-ghost use Rattle.row_signs.specs.Signs.{signAt, waitingOf, queueOf};
-ghost use Rattle.row_turn.specs.SignTurn.{Lies, RowLies};
-ghost use Rattle.row_choice.specs.Choice.{recordsOf, metOf, beforeOf};
-ghost use Rattle.row_schedule.specs.Round.{EntriesIn, EntriesApart, standOf};
+ghost use Rattle.row_signs.specs.Signs.{waitingOf, queueOf};
+ghost use Rattle.row_turn.specs.SignTurn.{Lies};
+ghost use Rattle.row_choice.specs.Choice.{recordsOf};
+ghost use Rattle.row_schedule.specs.Round.{RowSound, QueueSound, MarksNew, standOf, standsOf, Searched};
 use geometry::banks::Geometry;
 use row_judge::is_listed;
 use row_queue::join;
 use row_queue::without;
 use row_signs::queue::Queue;
 use row_signs::row::Row;
+use row_signs::sign::Sign;
 use row_turn::look_at;
 
 // Whether a record is free to be served or to wait, and whether it would have to wait.
@@ -24,25 +24,30 @@ pub struct Stand {
     pub held: bool,
 }
 
-// How a record stands to be served.
+// The record that the search serves, the number of records where it serves none; and which begin to wait.
+pub struct Search {
+    pub found: usize,
+    pub begins: [bool; 32],
+}
+
+// How a sign stands to be served: record j.
 fn stand_of(
     g: Geometry,
-    row: Row,
     queue: Queue,
     full: bool,
     store: &[u32],
     image: &[u32],
     sram: &[u32],
+    s: Sign,
     j: usize,
 ) -> Stand
     requires { ⌜ InRange g ⌝ }
-    requires { ⌜ j < 32 ⌝ }
     requires { ⌜ queue .count ≤ 32 ⌝ }
-    requires { ⌜ Lies g (now store) (signAt (row .signs) j) ⌝ }
-    ensures { λ r. ⌜ r ≡ standOf g (row .signs) queue full (now (store .entry)) (now (image .entry)) (now (sram .entry)) j ⌝ }
+    requires { ⌜ Lies g (now store) s ⌝ }
+    requires { ⌜ j < 32 ⌝ }
+    ensures { λ r. ⌜ r ≡ standOf g queue full (now (store .entry)) (now (image .entry)) (now (sram .entry)) s j ⌝ }
 {
-    let signs = row.signs;
-    let l = look_at(g, signs[j], store, image, sram);
+    let l = look_at(g, s, store, image, sram);
     let waits = is_listed(queue, queue.count as usize, j as u32);
     Stand {
         free: l.can & !waits,
@@ -50,7 +55,7 @@ fn stand_of(
     }
 }
 
-// How many records the search meets before the one it serves, round the list; n where it serves none.
+// The search: each record that it meets is looked at once.
 pub fn first_found(
     g: Geometry,
     row: Row,
@@ -61,66 +66,38 @@ pub fn first_found(
     store: &[u32],
     image: &[u32],
     sram: &[u32],
-) -> usize
-    requires { ⌜ InRange g ⌝ }
-    requires { ⌜ (0 < n) × (n ≤ 32) ⌝ }
-    requires { ⌜ last < n ⌝ }
+) -> Search
+    requires { ⌜ RowSound g (now store) (row .signs) n ⌝ }
     requires { ⌜ queue .count ≤ 32 ⌝ }
-    requires { ⌜ RowLies g (now store) (row .signs) n ⌝ }
-    ensures { λ r. ⌜ r ≡ firstFrom (λ i.
-        let s = standOf g (row .signs) queue full (now (store .entry)) (now (image .entry)) (now (sram .entry)) (metOf n last i) in
-        s .free && not (s .held)) 0 n ⌝ }
+    requires { ⌜ last < n ⌝ }
+    ensures { λ r. ⌜ Searched n last (standsOf g (row .signs) queue full (now (store .entry)) (now (image .entry)) (now (sram .entry))) r ⌝ }
 {
+    let signs = row.signs;
+    let mut begins = [false; 32];
     let mut i = 0;
     while i < n {
-        let s = stand_of(
-            g,
-            row,
-            queue,
-            full,
-            store,
-            image,
-            sram,
-            (last as usize + 1 + i) % n,
-        );
+        let j = (last as usize + 1 + i) % n;
+        let s = stand_of(g, queue, full, store, image, sram, signs[j], j);
         if s.free & !s.held {
-            return i;
+            return Search { found: j, begins };
         }
+        begins[j] = s.free & s.held;
         i += 1;
     }
-    n
+    Search { found: n, begins }
 }
 
-// The queue with those that begin to wait, in record order: met before the one that is served.
-pub fn joined_queue(
-    g: Geometry,
-    row: Row,
-    n: usize,
-    queue: Queue,
-    last: u32,
-    full: bool,
-    found: usize,
-    store: &[u32],
-    image: &[u32],
-    sram: &[u32],
-) -> Queue
-    requires { ⌜ InRange g ⌝ }
-    requires { ⌜ (0 < n) × (n ≤ 32) ⌝ }
-    requires { ⌜ last < n ⌝ }
-    requires { ⌜ queue .count ≤ 32 ⌝ }
-    requires { ⌜ EntriesIn queue n ⌝ }
-    requires { ⌜ EntriesApart queue ⌝ }
-    requires { ⌜ RowLies g (now store) (row .signs) n ⌝ }
-    ensures { λ r. ⌜ r ≡ queueOf (waitingOf queue ++ recordsOf (λ j.
-        let s = standOf g (row .signs) queue full (now (store .entry)) (now (image .entry)) (now (sram .entry)) j in
-        ltb (beforeOf n last j) found && (s .free && s .held)) n) ⌝ }
+// The queue with those that begin to wait, in record order.
+pub fn joined_queue(queue: Queue, n: usize, begins: [bool; 32]) -> Queue
+    requires { ⌜ n ≤ 32 ⌝ }
+    requires { ⌜ QueueSound queue n ⌝ }
+    requires { ⌜ MarksNew queue n begins ⌝ }
+    ensures { λ r. ⌜ r ≡ queueOf (waitingOf queue ++ recordsOf (λ j. getD begins j false) n) ⌝ }
 {
     let mut waiting = without(queue, queue.count as usize);
     let mut j = 0;
     while j < n {
-        let s = stand_of(g, row, queue, full, store, image, sram, j);
-        let met = (j + (n - 1 - last as usize)) % n < found;
-        if met & (s.free & s.held) {
+        if begins[j] {
             waiting = join(waiting, j as u32);
         }
         j += 1;

@@ -24,7 +24,8 @@ use Rattle.row_signs.specs.declared.queue.Queue.{Queue}
 use Rattle.row_signs.specs.Signs.{noSign, signAt, waitingOf}
 use Rattle.row_judge.specs.Judge.{startOf, apartOf, bankStandsOf, banksStandOf, rowStandsOf, rowDeclineOf}
 use Rattle.row_judge.proofs.JudgeLaws.{stands}
-use Rattle.row_choice.specs.Choice.{countOf, recordsOf, metOf, Known, readyOf, openOf, heldOf, foundOf, beginsOf, servedOf, waitersOf}
+use Rattle.row_choice.specs.Choice.{countOf, metOf, Known, readyOf, openOf, heldOf, foundOf, beginsOf, servedOf, waitersOf}
+use Rattle.row_choice.proofs.RecordsLaws.{records-same}
 use Rattle.row_choice.proofs.RoundLaws.{met-below}
 use Rattle.row_choice.proofs.SoundLaws.{Sound}
 use Rattle.row_turn.specs.SignTurn.{lookOf, signTurningOf}
@@ -47,10 +48,6 @@ all-same p q (suc n) same = rw (all-same p q n (λ j l. same j (omega arith)), s
 count-same : (p q : ℕ → Bool) (n : ℕ) → Agree p q n → countOf p n ≡ countOf q n
 count-same p q zero same = refl
 count-same p q (suc n) same = rw (count-same p q n (λ j l. same j (omega arith)), same n (omega arith)) refl
-
-records-same : (p q : ℕ → Bool) (n : ℕ) → Agree p q n → recordsOf p n ≡ recordsOf q n
-records-same p q zero same = refl
-records-same p q (suc n) same = rw (records-same p q n (λ j l. same j (omega arith)), same n (omega arith)) refl
 
 first-same : (p q : ℕ → Bool) (n : ℕ) → Agree p q n → firstFrom p 0 n ≡ firstFrom q 0 n
 first-same p q n same =

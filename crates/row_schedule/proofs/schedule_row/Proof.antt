@@ -8,7 +8,7 @@ use Rattle.words.specs.Decline.{acceptedOf}
 use Rattle.words.proofs.DeclineLaws.{went-on}
 use Rattle.row_judge.specs.Judge.{rowDeclineOf}
 use Rattle.row_schedule.specs.Schedule.{scheduleRowOf}
-use Rattle.row_schedule.proofs.ServeLaws.{asks, row-lies, row-served}
+use Rattle.row_schedule.proofs.ServeLaws.{row-sound, queue-sound, row-served}
 use Rattle.row_schedule.proofs.schedule_row.Statement.{statement}
 use Rattle.row_schedule.proofs.schedule_row.Tie as tie
 
@@ -39,21 +39,16 @@ declined c =
 choosable : tie.Need-choose-requires
 choosable c κs =
     let passed = c .before in
-    let a = entry (judged passed) .args in
-    asks (a .g) (a .k) (a .row .signs) (a .n) (a .queue) (a .last) (a .store .now) (a .image .now) (a .sram .now) (accepted passed)
+    let a = entry (judged passed) .args in (
+      row-sound (a .g) (a .k) (a .row .signs) (a .n) (a .queue) (a .last) (a .store .now) (a .image .now) (a .sram .now) (accepted passed),
+      queue-sound (a .g) (a .k) (a .row .signs) (a .n) (a .queue) (a .last) (a .store .now) (a .image .now) (a .sram .now) (accepted passed),
+    )
 
 servable : tie.Need-serve-choice-requires
 servable c κs =
     let passed = c .before .before .before in
     let a = entry (judged passed) .args in
-    let all = asks (a .g) (a .k) (a .row .signs) (a .n) (a .queue) (a .last) (a .store .now) (a .image .now) (a .sram .now) (accepted passed) in (
-      all .0,
-      (
-        all .1 .0 .1,
-        row-lies (a .g) (a .k) (a .row .signs) (a .n) (a .queue) (a .last) (a .store .now) (a .image .now) (a .sram .now)
-            (accepted passed),
-      ),
-    )
+    row-sound (a .g) (a .k) (a .row .signs) (a .n) (a .queue) (a .last) (a .store .now) (a .image .now) (a .sram .now) (accepted passed)
 
 chosen : tie.Need-returns-2
 chosen c =

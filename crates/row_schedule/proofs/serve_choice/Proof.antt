@@ -22,7 +22,7 @@ nobody c = rw (c .no-sign .ensures, le-ltb _ _ (c .before .if1 .taken))
 lies : tie.Need-serve-requires
 lies c κs =
     let start = entry (test c .before) in
-    (start .pre .0, start .pre .1 .1 _ (omega (arith, test c .if1 .left)))
+    (start .pre .range, start .pre .lies _ (omega (arith, test c .if1 .left)))
 
 somebody : tie.Need-returns-2
 somebody c =

@@ -35,11 +35,6 @@ at-round c =
     (is-full counted ∙ c .before .if1 .taken))
     _ (c .from-round .ensures)
 
-askable : tie.Need-first-ready-requires
-askable c κs =
-    let (range, ((some, few), (below, (room, (inside, (apart, row)))))) = entry (c .before) .pre in
-    (range, (few, (room, (inside, row))))
-
 after-queue : tie.Need-returns-2
 after-queue c =
     let ready = c .before .before .before in
@@ -54,7 +49,7 @@ a-word : tie.Need-cast-t18
 a-word c =
     let ready = c .before .before .before in
     let start = entry (ready .before .before) in
-    omega (arith, start .pre .1 .1 .1 .1 .0 (ready .first-ready .result) (omega (arith, c .before .if2 .left)), start .pre .1 .0 .1)
+    omega (arith, start .pre .1 .0 .inside (ready .first-ready .result) (omega (arith, c .before .if2 .left)), start .pre .0 .few)
 
 from-queue : tie.Need-returns-3
 from-queue c =
@@ -77,7 +72,7 @@ choose-spec =
     (λ c κs. search needs)
     (λ c κs. search needs)
     at-round
-    askable
+    (λ c κs. search needs)
     (λ c. search needs)
     (λ c κs. search needs)
     after-queue

@@ -35,21 +35,21 @@ starts c = (omega arith, λ q l. absurd (omega (arith, l)))
 
 -- an entry is a record of the row
 is-record : (c : tie.In-loop Inv-loop μ-loop) → let a = entry (c .before) .args in getD (a .queue .numbers) (c .before .loop .p) 0 < a .n
-is-record c = entry (c .before) .pre .1 .1 .1 .0 (c .before .loop .p) (c .loop-test .taken)
+is-record c = entry (c .before) .pre .1 .inside (c .before .loop .p) (c .loop-test .taken)
 
 in-queue : tie.Need-array-read-i Inv-loop μ-loop
-in-queue c = omega (arith, c .loop-test .taken, entry (c .before) .pre .1 .1 .0)
+in-queue c = omega (arith, c .loop-test .taken, entry (c .before) .pre .1 .room)
 
 offset-fits : tie.Need-mul-look-at Inv-loop μ-loop
-offset-fits c = omega (arith, is-record c, entry (c .before) .pre .1 .0)
+offset-fits c = omega (arith, is-record c, entry (c .before) .pre .0 .few)
 
 in-row : tie.Need-array-copy-out-look-at Inv-loop μ-loop
-in-row c = omega (arith, is-record c, entry (c .before) .pre .1 .0)
+in-row c = omega (arith, is-record c, entry (c .before) .pre .0 .few)
 
 lies : tie.Need-look-at-requires Inv-loop μ-loop
 lies c κs =
     let start = entry (c .before .before) in
-    (start .pre .0, start .pre .1 .1 .1 .1 _ (is-record (c .before)))
+    (start .pre .0 .range, start .pre .0 .lies _ (is-record (c .before)))
 
 found : tie.Need-returns Inv-loop μ-loop
 found c =
@@ -59,7 +59,7 @@ found c =
     (here .loop .inv .0) (λ l. sym (ap (λ (l : Look). l .can) (c .before .look-at .ensures)) ∙ c .if1 .taken) (here .loop .inv .1)
 
 no-overflow : tie.Need-add-p Inv-loop μ-loop
-no-overflow c = let turn = test (c .before) in omega (arith, turn .loop-test .taken, entry (turn .before) .pre .1 .1 .0)
+no-overflow c = let turn = test (c .before) in omega (arith, turn .loop-test .taken, entry (turn .before) .pre .1 .room)
 
 none-yet : tie.Need-loop-again Inv-loop μ-loop
 none-yet c =

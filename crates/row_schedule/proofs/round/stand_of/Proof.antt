@@ -11,16 +11,13 @@ unfolding standOf
 as-looked c =
     let listed = c .before .before in
     let looked = listed .before .before in
-    let signs = looked .before .before in
-    let a = signs .before .before .before .before .args in
+    let a = looked .before .before .before .before .args in
     rw (listed .is-listed .ensures ∙ listed-waits (a .queue) (a .j), looked .look-at .ensures)
 
 pub stand-of-spec : {M : Type 1} → statement M
 stand-of-spec =
     tie.close
     (tie.spec
-    (λ c. search needs)
-    (λ c. search needs)
     (λ c κs. search needs)
     (λ c. search needs)
     (λ c. search needs)
