@@ -9,13 +9,14 @@ ghost use Rattle.row_schedule.specs.Round.{RowSound};
 ghost use Rattle.row_schedule.specs.Schedule.{servingOf, scheduling, scheduleRowOf};
 use crate::answer::ScheduleAnswer;
 use crate::answer::Scheduled;
+use crate::answer::declined;
+use crate::answer::idle;
 use crate::choice::Choice;
 use crate::choice::choose;
 use geometry::banks::Geometry;
 use row_judge::row_decline;
 use row_signs::queue::Queue;
 use row_signs::row::Row;
-use row_signs::sign::no_sign;
 use row_turn::serve;
 
 // The turn of the record that is served, or nothing where nobody is.
@@ -36,20 +37,7 @@ fn serve_choice(
     let number = choice.served;
     let queue = choice.queue;
     if n <= number {
-        let sign = no_sign();
-        let answer = ScheduleAnswer {
-            decline: 0,
-            idle: true,
-            served: 0,
-            event: false,
-            queue,
-            last,
-        };
-        return Scheduled {
-            number: n,
-            sign,
-            answer,
-        };
+        return idle(n, queue, last);
     }
     let signs = row.signs;
     let t = serve(g, signs[number], store, image, sram);
@@ -96,20 +84,7 @@ pub fn schedule_row(
         sram.len(),
     );
     if !decline.is_accepted() {
-        let sign = no_sign();
-        let answer = ScheduleAnswer {
-            decline: decline.number(),
-            idle: false,
-            served: 0,
-            event: false,
-            queue,
-            last,
-        };
-        return Scheduled {
-            number: n,
-            sign,
-            answer,
-        };
+        return declined(decline, n, queue, last);
     }
     let choice = choose(g, k, row, n, queue, last, store, image, sram);
     serve_choice(g, row, n, choice, last, store, image, sram)

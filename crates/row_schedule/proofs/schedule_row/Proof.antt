@@ -28,13 +28,8 @@ accepted c = went-on (judged c .row-decline .ensures) (c .before .is-accepted .e
 declined : tie.Need-returns
 unfolding scheduleRowOf
 declined c =
-    let asked = c .before .before .before in
-    rw (
-      c .number .ensures,
-      c .before .no-sign .ensures,
-      ← asked .before .row-decline .ensures,
-      sym (asked .is-accepted .ensures) ∙ not-true _ (c .before .before .if1 .taken),
-    )
+    let asked = c .before .before in
+    rw (c .declined .ensures, ← asked .before .row-decline .ensures, sym (asked .is-accepted .ensures) ∙ not-true _ (c .before .if1 .taken))
 
 choosable : tie.Need-choose-requires
 choosable c κs =
@@ -64,7 +59,6 @@ pub schedule-row-spec : {M : Type 1} → statement M
 schedule-row-spec =
     tie.close
     (tie.spec
-    (λ c κs. search needs)
     (λ c κs. search needs)
     (λ c κs. search needs)
     (λ c κs. search needs)

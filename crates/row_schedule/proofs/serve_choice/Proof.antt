@@ -17,7 +17,7 @@ test c = c .before .before .before
 
 nobody : tie.Need-returns
 unfolding servingOf
-nobody c = rw (c .no-sign .ensures, le-ltb _ _ (c .before .if1 .taken))
+nobody c = rw (c .idle .ensures, le-ltb _ _ (c .before .if1 .taken))
 
 lies : tie.Need-serve-requires
 lies c κs =
