@@ -18,7 +18,7 @@ pastEnd = signAt [] 0
 -- a row has 32 records
 length-gathered : (xs : List Sign) (n : ℕ) → length (gathered xs n .signs) ≡ 32
 length-gathered xs zero = length-replicate 32 noSign
-length-gathered xs (suc n) = length-set (gathered xs n .signs) n (signAt xs n) ∙ length-gathered xs n
+length-gathered xs (suc n) = length-set (gathered xs n .signs) n _ ∙ length-gathered xs n
 
 -- below the next number: below, or the number
 below-next : (i m : ℕ) → i < suc m → (i < m) ⊎ (i ≡ m)
