@@ -135,7 +135,7 @@ module _ (g : Geometry) (s t : State) (w : Writes g s t) where
         low k h (yes m) = high k h m (decLe (4 * stepQuadOf g s + 4) (n * pageWordsOf g + k))
         low k h (no m) = one-quad g s t w .outside (n * pageWordsOf g + k) (inl (omega arith))
 
-    -- the step stands in this bank, or in the other
+    -- the step is in this bank, or in the other
     side : (a b : Bool) → (protectedPageOf g (s .device) b n ≡ true → Kept b) → Kept (not b) → protectedPageOf g (s .device) a n ≡ true → Kept a
     side true true same other p = same p
     side true false same other p = other

@@ -1,5 +1,5 @@
 -- What a step and a tear do to the banks: they write, at most the quad of the next step in the bank in which it
--- stands, while an operation runs, and never in a protected page. So the other bank stays, and so do the words outside the quad.
+-- is, while an operation runs, and never in a protected page. So the other bank stays, and so do the words outside the quad.
 -- Assumes nothing.
 use mathlib.Core.Path.{_≡_, refl, sym, ap, _∙_}
 use mathlib.Core.Bool.{Bool, true, false, not}

@@ -1,4 +1,4 @@
--- Where an address stands, for every Q, B and P together: an offset of a window leads back to it, rounding keeps window and page, and
+-- Where an address is, for every Q, B and P together: an offset of a window leads back to it, rounding keeps window and page, and
 -- a quad that was located lies in its bank.
 -- Assumes nothing.
 use mathlib.Core.Path.{_≡_, refl, sym, ap, _∙_}
@@ -18,7 +18,7 @@ use Rattle.map.specs.Windows.{upperBoot, lowerProgram, windowStartOf, wi
 use Rattle.map.specs.Windows.{inWindowOf, orElse, locateOf, pageOf, wordIndexOf, quadIndexOf}
 use Rattle.geometry.proofs.SizeLaws.{Unit, page-pos, unit-in-page}
 
--- an address and where it stands belong together
+-- an address and where it is belong together
 pub record Stands (g : Geometry) (a : ℕ) (l : Location) : Type 0 where
   pub address : a ≡ windowStartOf g (l .program) (l .upper) + l .offset
   pub room : l .offset < windowBytesOf g (l .program)
@@ -42,7 +42,7 @@ module _ (g : Geometry) (program upper : Bool) (a : ℕ) where
   unfolding inWindowOf
   past lo hi = rw (le-leb _ _ lo, le-ltb _ _ hi)
 
-  -- what stands in the window stands there at its distance from the start
+  -- what is in the window is there at its distance from the start
   pub record Within : Type 0 where
     pub address : a ≡ windowStartOf g program upper + (a - windowStartOf g program upper)
     pub room : a - windowStartOf g program upper < windowBytesOf g program
@@ -88,7 +88,7 @@ module _ (g : Geometry) (ok : InRange g) where
         hit g true true offset h,
       )
 
-  -- an address that is inside stands in its window at its offset
+  -- an address that is inside is in its window at its offset
   pub stands : (a : ℕ) → locateOf g a .inside ≡ true → Stands g a (locateOf g a)
   unfolding locateOf
   stands a =
@@ -119,7 +119,7 @@ module _ (g : Geometry) (ok : InRange g) where
       let whole : windowStartOf g program upper ≡ n * m * u = e ∙ ap (λ (x : ℕ). n * x) (sym (unit .fills)) ∙ sym (mul-assoc n m u) in
       rw (whole, mul-add-div-right (unit .some) (n * m) offset) (omega arith)
 
-  -- an address rounded down to a quad, a row or a page stands in the same window, its offset rounded down
+  -- an address rounded down to a quad, a row or a page is in the same window, its offset rounded down
   pub round-found : (u m : ℕ) → Unit g u m → (a : ℕ) → locateOf g a .inside ≡ true
       → let l = locateOf g a in locateOf g (roundDownOf a u) ≡ located (l .program) (l .upper) (roundDownOf (l .offset) u)
   round-found u m unit a h =
@@ -156,7 +156,7 @@ module _ (g : Geometry) (ok : InRange g) where
       le-trans (rw (unit-kept u m unit b h) at (unit-in-page g ok u m unit (l .offset)))
       (page-end (l .program) (l .offset) (stands (roundDownOf b u) h .room))
 
-  -- ---- what stands in a window lies in its bank
+  -- ---- what is in a window lies in its bank
   module _ (l : Location) (room : l .offset < windowBytesOf g (l .program)) where
     pub page-below : pageOf g l < pick (l .program) (g .p) (g .b)
     page-below = go (l .program) room

@@ -1,4 +1,4 @@
--- The actions of two images that differ in one word: word n of a quad stands in the quad's action 1 + n and in no other, so the lists differ
+-- The actions of two images that differ in one word: word n of a quad is in the quad's action 1 + n and in no other, so the lists differ
 -- at the place of the word's store, and nowhere where that quad is the sequence quad, whose words are not the image's.
 -- Assumes nothing.
 use mathlib.Core.Path.{_≡_, refl, sym, ap, _∙_}

@@ -44,7 +44,7 @@ set-near i l m h y v w e =
     go j ne (yes on) (no out) =
         rw (set-out l y v (omega arith), set-out m y w (omega (arith, h .long))) (h .same j ne)
 
--- a quad of both, whose words are the same but where they stand at word i
+-- a quad of both, whose words are the same but for word i of the bank
 pub put-near : (i : ℕ) (l m : List ℕ) → SameBut i l m → (j : ℕ) (q r : List ℕ) → ((y : ℕ) → y < 4 → (4 * j + y ≡ i → ⊥) → wordAt q y ≡ wordAt r y)
     → SameBut i (putQuad l j q) (putQuad m j r)
 put-near i l m h j q r e =
@@ -60,7 +60,7 @@ put-near i l m h j q r e =
 pub quad-word : (l : List ℕ) (j y : ℕ) → y < 4 → wordAt (quadAt l j) y ≡ wordAt l (4 * j + y)
 quad-word l j y few = below-four (λ y. wordAt (quadAt l j) y ≡ wordAt l (4 * j + y)) (ap (wordAt l) (omega arith)) refl refl refl y few
 
--- the same of quads merged into what stands there
+-- the same of quads merged into what is there
 pub merge-near : (i : ℕ) (l m : List ℕ) → SameBut i l m → (j : ℕ) (q r mask : List ℕ)
     → ((y : ℕ) → y < 4 → (4 * j + y ≡ i → ⊥) → wordAt q y ≡ wordAt r y)
     → SameBut i (putQuad l j (mergeQuadOf mask q (quadAt l j))) (putQuad m j (mergeQuadOf mask r (quadAt m j)))

@@ -1,4 +1,4 @@
--- What an accepted flash read tells: what is lent fits, the device is possible, and the address stands in a window. Assumes nothing.
+-- What an accepted flash read tells: what is lent fits, the device is possible, and the address is in a window. Assumes nothing.
 use mathlib.Core.Path.{_≡_, refl}
 use mathlib.Core.Bool.{Bool, true, false}
 use mathlib.Core.List.{[], _∷_}

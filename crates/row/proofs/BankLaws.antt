@@ -17,7 +17,7 @@ use Rattle.row_judge.specs.Judge.{Apart}
 use Rattle.row_turn.specs.SignTurn.{partOf, signStateOf, signTurnOf, turnedSign, turnedStore, Lies}
 use Rattle.row_turn.proofs.PartLaws.{part-length, sets-outside, part-apart}
 
--- what is set into the store stands there
+-- what is set into the store is there
 part-set : (store : List ℕ) (a n : ℕ) (vs : List ℕ) → length vs ≡ n → a + n ≤ length store → partOf (sets store a vs) a n ≡ vs
 part-set store a n vs e h =
     ap (λ (l : List ℕ). partOf l a n)

@@ -14,7 +14,7 @@ use Rattle.row_choice.proofs.WaitsLaws.{Stands, waits-stands, stands-wa
 use Rattle.row_choice.proofs.ServedLaws.{from-queue, nobody-leaves, ready-before, queue-serves, served-sets-room}
 use Rattle.row_choice.proofs.SoundLaws.{Sound, begins-new, joins-begins, served-gone}
 
--- wherever x stands in the queue, y stands before it
+-- wherever x is in the queue, y is before it
 Behind : List ℕ → ℕ → ℕ → Type 0
 Behind l x y = (p q : ℕ) → p < length l → getD l p 0 ≡ x → q < length l → getD l q 0 ≡ y → q < p
 

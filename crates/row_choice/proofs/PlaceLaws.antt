@@ -1,4 +1,4 @@
--- Where an entry stands when one of the list leaves it, and when others join its end. Assumes nothing.
+-- Where an entry is when one of the list leaves it, and when others join its end. Assumes nothing.
 use mathlib.Core.Path.{_≡_, ap, _∙_}
 use mathlib.Core.List.{List, _++_}
 use Prim.Native.Nat.{ℕ, suc, _+_, _-_, _≤_, _<_, min}
@@ -15,7 +15,7 @@ after-seam l m p h = let e : p ≡ length l + (p - length l) = omega arith in ap
 
 -- ---- one leaves
 
--- where the entry stood that stands at p then: those after i moved up by one
+-- where the entry was that is at p then: those after i moved up by one
 abbrev pub placeOf : ℕ → ℕ → ℕ
 placeOf i p = p + min 1 (suc p - i)
 

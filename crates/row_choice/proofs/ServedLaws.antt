@@ -39,7 +39,7 @@ from-queue r h =
 pub ready-first : (r : Known) → First (λ p. r .can (getD (r .waiting) p 0)) (length (r .waiting)) (readyOf r)
 ready-first r = first-below (λ p. r .can (getD (r .waiting) p 0)) (length (r .waiting))
 
--- no other that can be stands before it
+-- none that can be served is before it
 pub ready-before : (r : Known) (p : ℕ) → r .can (getD (r .waiting) p 0) ≡ true → readyOf r ≤ p
 ready-before r p h = go (decLe (readyOf r) p)
   where

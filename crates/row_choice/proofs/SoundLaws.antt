@@ -18,12 +18,12 @@ use Rattle.row_choice.proofs.RecordsLaws.{records-count, records-rising
 use Rattle.row_choice.proofs.WaitsLaws.{Stands, waits-stands, not-waits, stands-either}
 use Rattle.row_choice.proofs.ServedLaws.{FromQueue, Taken, from-queue, from-list, nobody-leaves}
 
--- each entry is one of the first n records, and none stands there twice
+-- each entry is one of the first n records, and none is there twice
 pub record Sound (waiting : List ℕ) (n : ℕ) : Type 0 where
   pub below : (p : ℕ) → p < length waiting → getD waiting p 0 < n
   pub apart : (p q : ℕ) → p < q → q < length waiting → getD waiting p 0 ≡ getD waiting q 0 → ⊥
 
--- a record stands at one place only
+-- a record is at one place only
 one-place : (l : List ℕ) (n p q : ℕ) → Sound l n → p < length l → q < length l → getD l p 0 ≡ getD l q 0 → p ≡ q
 one-place l n p q s a b e = go (decLt p q) (decLt q p)
   where

@@ -15,7 +15,7 @@ use Rattle.words.proofs.FirstLaws.{any-some, some-any}
 use Rattle.row_signs.specs.Signs.{waitsOf}
 use Rattle.row_choice.proofs.PlaceLaws.{after-seam}
 
--- record j stands at a place
+-- record j is at a place
 pub record Stands (l : List ℕ) (j : ℕ) : Type 0 where
   pub place : ℕ
   pub inside : place < length l

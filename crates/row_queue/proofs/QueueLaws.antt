@@ -1,4 +1,4 @@
--- Entries that join a queue, one that leaves it, and what stands past them. Assumes nothing.
+-- Entries that join a queue, one that leaves it, and what is past them. Assumes nothing.
 use Prim.Native.Nat.{ℕ, zero, suc, _+_, _-_, _<_, _≤_}
 use mathlib.Core.Path.{_≡_, refl, sym, ap, _∙_}
 use mathlib.Core.List.{List, [], _∷_, _++_, append-assoc, append-nil}

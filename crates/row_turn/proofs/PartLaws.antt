@@ -40,7 +40,7 @@ effect-on g store image sram s e words w h = rw (cancel (s .one) words, cancel (
 pub part-length : (store : List ℕ) (a n : ℕ) → a + n ≤ length store → length (partOf store a n) ≡ n
 part-length store a n h = length-take-le n (drop a store) (omega (arith, length-drop a store, h))
 
--- what is set, with what stands before and after it
+-- what is set, with what is before and after it
 sets-is : (l : List ℕ) (i : ℕ) (vs : List ℕ) → i + length vs ≤ length l → sets l i vs ≡ take i l ++ (vs ++ drop (i + length vs) l)
 sets-is l i vs h = sets-eq vs l i h ∙ append-assoc (take i l) vs (drop (i + length vs) l)
 

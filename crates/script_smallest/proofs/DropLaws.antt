@@ -62,7 +62,7 @@ module _ (g : Geometry) (sram : List ℕ) (s : State) (number : ℕ) where
 
   -- ---- there is one result
 
-  -- of two lowest records that can go neither stands before the other
+  -- of two lowest records that can go neither is before the other
   same-lowest : (x : List ℕ) (i j : ℕ) → Gives g sram s (withoutOf x i) number → ((k : ℕ) → k < i → Gives g sram s (withoutOf x k) number → ⊥)
       → Gives g sram s (withoutOf x j) number → ((k : ℕ) → k < j → Gives g sram s (withoutOf x k) number → ⊥) → i ≡ j
   same-lowest x i j can first also before = go (decLt i j) (decLt j i)

@@ -1,4 +1,4 @@
--- Records dropped one after another in a buffer: what is left stands in front, zeros after it. Assumes nothing.
+-- Records dropped one after another in a buffer: what is left is in front, zeros after it. Assumes nothing.
 use Prim.Native.Nat.{ℕ, zero, suc, _+_, _*_, _-_, _%_, _<_, _≤_}
 use mathlib.Core.Path.{_≡_, refl, sym, ap, _∙_}
 use mathlib.Core.Bool.{Bool, true, false}

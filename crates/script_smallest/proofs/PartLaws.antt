@@ -15,7 +15,7 @@ use Rattle.script_smallest.specs.SmallestScripts.{Drops, PartOf}
 use Rattle.script_smallest.specs.SmallestScripts.Drops.{stop, next}
 use Rattle.script_smallest.proofs.WithoutLaws.{without}
 
--- where record m of a script without record i stood
+-- where record m of a script without record i is in the whole script
 abbrev pub stood : ℕ → ℕ → ℕ
 stood i m = pick (ltb m i) m (m + 1)
 

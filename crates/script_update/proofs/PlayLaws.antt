@@ -1,4 +1,4 @@
--- Playing the records of an update's actions: each record is the turn of its place, so after i records stands what i turns leave.
+-- Playing the records of an update's actions: each record is the turn of its place, so i records leave what i turns leave.
 -- Assumes nothing.
 use mathlib.Core.Path.{_≡_, refl, sym, ap, _∙_}
 use mathlib.Core.Bool.{true}
@@ -101,7 +101,7 @@ module _ (sram : List ℕ) (short : length sram ≤ 16384) where
           let m : n < length actions = omega (arith, actions-total g image w) in
           record-read actions fits n m ∙ ap recorded (sym (action-listed g image w n l))
 
-    -- after n records stands what n turns leave
+    -- n records leave what n turns leave
     played : (n : ℕ) → n ≤ totalOf g → stateOf g sram s script n ≡ afterTurns g s image (turns n)
     played zero l = refl
     played (suc n) l =

@@ -63,6 +63,6 @@ module _ (g : Geometry) (image : List ℕ) (w : ℕ) where
   unfolding scriptOf
   put-all = rw (take-all (totalOf g) (actionsOf g image w) (omega (arith, actions-total g image w)))
 
--- the script at the buffer's front, and after it what stood there
+-- the script at the buffer's front, and after it what was there
 pub put-front : (script before : List ℕ) → length script ≤ length before → sets before 0 script ≡ withScript script before
 put-front script before room = rw (sets-front before script, take-all (length before) script room)

@@ -75,7 +75,7 @@ pub next-tseq : (w : ℕ) → tseqOf (wordAt (nextSequenceOf w) 0) ≡ (tseqOf w
 unfolding nextSequenceOf
 next-tseq w = word-tseq ((tseqOf w + 1) % 65536) (omega arith)
 
--- ---- where the sequence quad stands: the last of the boot quads, in the last boot page
+-- ---- where the sequence quad is: the last of the boot quads, in the last boot page
 module _ (g : Geometry) (ok : InRange g) where
   some-quads : 8 ≤ bootQuadsOf g
   some-quads = omega (arith, mul-le-mul (ok .b-low) (ok .q-low))

@@ -38,7 +38,7 @@ put-bank g ok d bank second before at =
     let size = lines-length g d bank second false (g .b) (ok .q-high) (kind-few g ok false) in
     rw (sets-after before at (at + 17 * g .b) boot program (omega (arith, size)))
 
--- bank 1, and then bank 2: the sheet, and after it what stood there
+-- bank 1, and then bank 2: the sheet, and after it what was there
 pub put-sheet : (g : Geometry) → InRange g → (d : Device) (one two buffer : List ℕ) → sheetBytesOf g ≤ length buffer
     → sets (sets buffer 0 (bankLinesOf g d one false)) (17 * pagesOf g) (bankLinesOf g d two true) ≡ withSheet (sheetOf g d one two) buffer
 unfolding sheetOf

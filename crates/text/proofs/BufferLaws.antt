@@ -37,7 +37,7 @@ sets-tail : (x : ℕ) (xs : List ℕ) (at : ℕ) (bs : List ℕ) → sets (x ∷
 sets-tail x xs at [] = refl
 sets-tail x xs at (b ∷ bs) = sets-tail x (set xs at b) (suc at) bs
 
--- bytes from the first on are the output's front as far as the buffer goes, and then what stood there
+-- bytes from the first on are the output's front as far as the buffer goes, and then what was there
 pub sets-front : (xs bs : List ℕ) → sets xs 0 bs ≡ putFirst bs xs
 sets-front [] [] = refl
 sets-front [] (b ∷ bs) = sets-out [] 0 (b ∷ bs) (omega arith)

@@ -1,5 +1,5 @@
 -- The steps of a block: each writes one quad of the new bank, blank or programmed, and the last clears WR and WRERR. After its end the
--- device stands between two blocks.
+-- device is between two blocks.
 -- Assumes nothing.
 use mathlib.Core.Path.{_≡_, refl, sym, ap, _∙_}
 use mathlib.Core.Bool.{Bool, true, false, not}

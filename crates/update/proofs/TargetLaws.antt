@@ -1,4 +1,4 @@
--- Each quad and each page of the upper side is its own target: its address stands in its window at a multiple of 16 or of a page, so
+-- Each quad and each page of the upper side is its own target: its address is in its window at a multiple of 16 or of a page, so
 -- rounding keeps it, and nothing there is protected where PWP ends below the upper region and UBWP is 0.
 -- Assumes nothing.
 use mathlib.Core.Path.{_≡_, refl, ap, _∙_}
@@ -26,7 +26,7 @@ use Rattle.nvmop.specs.Operation.{unitOf, targetOf, targetBeginsOf, beginsAtOf}
 use Rattle.flash.specs.Effect.{stepAtOf, stepLocationOf, blockedOf, effect, effectAtOf, effectOf}
 use Rattle.update.specs.Actions.{upperAddressOf, bankQuadsOf}
 
--- where quad j of a bank stands on the upper side
+-- where quad j of a bank is on the upper side
 upperPlaceOf : Geometry → ℕ → Location
 upperPlaceOf g j = pick (ltb j (bootQuadsOf g)) (located false true (16 * j)) (located true true (16 * (j - bootQuadsOf g)))
 
@@ -115,7 +115,7 @@ module _ (g : Geometry) (ok : InRange g) where
   unfolding beginsAtOf
   page-begins p pwp h l = rw (page-target p h) (place-begins (p * pageQuadsOf g) pwp l)
 
-  -- ---- quad k of a page stands 16 * k bytes after its first: the boot quads are whole pages
+  -- ---- quad k of a page is 16 * k bytes after its first: the boot quads are whole pages
   page-place : (p k : ℕ) → k < pageQuadsOf g
       → let l = upperPlaceOf g (p * pageQuadsOf g) in located (l .program) (l .upper) (l .offset + 16 * k) ≡ upperPlaceOf g (p * pageQuadsOf g + k)
   unfolding upperPlaceOf

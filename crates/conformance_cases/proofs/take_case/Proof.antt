@@ -1,4 +1,4 @@
--- Each list stands in its buffer, and what was asked of the shape holds to the end.
+-- Each list is in its buffer, and what was asked of the shape holds to the end.
 use borrow.Author.Needs.{needs}
 use native.Mathlib.Omega.{arith}
 use Rattle.conformance_cases.proofs.take_case.Statement.{statement}

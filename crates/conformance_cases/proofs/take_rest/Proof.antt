@@ -1,4 +1,4 @@
--- The last list stands in what the first leaves of the buffer.
+-- The last list is in what the first leaves of the buffer.
 use mathlib.Core.Path.{sym}
 use native.Mathlib.Omega.{arith}
 use borrow.Author.Needs.{needs}

@@ -1,4 +1,4 @@
--- Bank 2 stands there where the swap bit of the kind and the side differ.
+-- Bank 2 is there where the swap bit of the kind and the side differ.
 use mathlib.Core.Path.{_≡_, refl}
 use mathlib.Core.Bool.{Bool, true, false, not, Bool·beq}
 use Rattle.words.specs.Word.{pick}

@@ -1,4 +1,4 @@
--- The invariant: the records so far are played and their lines stand in the buffer as far as it goes. The measure is the records that
+-- The invariant: the records so far are played and their lines are in the buffer as far as it goes. The measure is the records that
 -- are left.
 use Prim.Native.Nat.{_-_, _≤_, _/_}
 use borrow.Author.Needs.{needs}

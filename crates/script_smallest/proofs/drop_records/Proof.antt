@@ -1,4 +1,4 @@
--- The invariant: what is left stands in front, zeros after it, and none of its records before i can go. The measure is the trials that are left at most.
+-- The invariant: what is left is in front, zeros after it, and none of its records before i can go. The measure is the trials that are left at most.
 use Prim.Native.Nat.{_+_, _*_, _-_, _≤_}
 use lib.ListN.{length}
 use mathlib.Core.Path.{_≡_, refl, ap, _∙_}

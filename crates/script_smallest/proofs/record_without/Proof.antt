@@ -1,4 +1,4 @@
--- The records before it stand where they stood, the others one further.
+-- The records before it are where they were, the others one further.
 use Prim.Native.Nat.{_+_, _*_, _≤_}
 use lib.ListN.{length}
 use mathlib.Core.Path.{sym, _∙_}

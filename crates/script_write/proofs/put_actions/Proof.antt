@@ -1,4 +1,4 @@
--- The invariant: the records of the actions so far stand in the buffer. The measure is the actions that are left.
+-- The invariant: the records of the actions so far are in the buffer. The measure is the actions that are left.
 use Prim.Native.Nat.{_-_, _≤_, _<_}
 use borrow.Author.Needs.{needs}
 use lib.ListN.{length}

@@ -1,4 +1,4 @@
--- The invariant: the lines so far stand in the buffer. The measure is the pages that are left.
+-- The invariant: the lines so far are in the buffer. The measure is the pages that are left.
 use Prim.Native.Nat.{_-_, _≤_, _<_}
 use borrow.Author.Needs.{needs}
 use lib.ListN.{length}

@@ -1,4 +1,4 @@
--- The block's part of each lane, by turns, is the block's words, and what stands before them in the target is not lent.
+-- The block's part of each lane, by turns, is the block's words, and what is before them in the target is not lent.
 use borrow.Author.Needs.{needs}
 use native.Mathlib.Omega.{arith}
 use Rattle.lanes_interleave.proofs.BlockLaws.{block-back}
