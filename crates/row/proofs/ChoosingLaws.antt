@@ -77,9 +77,7 @@ module _ (g : Geometry) (r : RowState) (c : Call) (judged : JudgedCall g r c) wh
           new = recordsOf (beginsOf known) n;
           queue = queue-after g r c (call-accepted g r c judged) ∙ ap queueOf (nobody-leaves known h);
           only = λ j w. test-begins j (rw (w .is) at (rising .below (w .at) (w .inside))) (rw (w .is) at (rising .holds (w .at) (w .inside)));
-          all = λ j b.
-              let w = records-all (beginsOf known) n j (begins-listed j b) (begins-test j b) in
-              record { at = w .place; inside = w .inside; is = w .is };
+          all = λ j b. records-all (beginsOf known) n j (begins-listed j b) (begins-test j b);
           rising = rising .rising;
         }
 

@@ -9,7 +9,7 @@ use Rattle.geometry.specs.declared.banks.Geometry.{Geometry}
 use Rattle.geometry.specs.Banks.{inRangeOf, bankWordsOf}
 use Rattle.geometry.specs.Lent.{mostSram}
 use Rattle.update.specs.Actions.{totalOf}
-use Rattle.row_signs.specs.Signs.{signAt, waitingOf, leftOf, queueOf}
+use Rattle.row_signs.specs.Signs.{In, signAt, waitingOf, leftOf, queueOf}
 use Rattle.row_judge.specs.Judge.{Judged}
 use Rattle.row.specs.Row.{RowState, Call, answerOf, afterOf, setOf, turnAt, Can, WouldSet, Waits}
 
@@ -73,12 +73,6 @@ pub record Begins (g : Geometry) (r : RowState) (c : Call) (i j : ℕ) : Type 0 
   pub before : at < i
   pub is : metAt r at ≡ j
   pub held : Held g r c j
-
--- it is entry `at` of a list
-pub record In (l : List ℕ) (j : ℕ) : Type 0 where
-  pub at : ℕ
-  pub inside : at < length l
-  pub is : getD l at 0 ≡ j
 
 -- "begins to wait, and the search goes on": those of the first i records met that are held back join the queue's end, "those of one call in record order"
 pub record Joined (g : Geometry) (r : RowState) (c : Call) (i : ℕ) : Type 0 where

@@ -7,10 +7,10 @@ use Prim.Native.Nat.{ℕ, suc, _+_, _-_, _≤_, _<_}
 use native.Mathlib.Decide.{decLt, le-ind}
 use native.Mathlib.Omega.{arith}
 use lib.ListN.{length, getD, length-append, List·getD-append}
-use Rattle.row_signs.specs.Signs.{leftOf, waitsOf}
+use Rattle.row_signs.specs.Signs.{In, leftOf, waitsOf}
 use Rattle.row_choice.specs.Choice.{Known, recordsOf, readyOf, fromQueueOf, beginsOf, servedOf, waitersOf}
 use Rattle.row_choice.proofs.PlaceLaws.{after-seam, placeOf, left-one-fewer, left-at}
-use Rattle.row_choice.proofs.WaitsLaws.{Stands, waits-stands, stands-waits, not-waits}
+use Rattle.row_choice.proofs.WaitsLaws.{waits-in, in-waits, not-waits}
 use Rattle.row_choice.proofs.ServedLaws.{from-queue, nobody-leaves, ready-before, queue-serves, served-sets-room}
 use Rattle.row_choice.proofs.SoundLaws.{Sound, begins-new, joins-begins, served-gone}
 
@@ -53,29 +53,29 @@ call-behind r x y waits behind = go (fromQueueOf r) refl
         subst (λ (l : List ℕ). Behind l x y) (sym (nobody-leaves r e))
         (joined-behind (r .waiting) (recordsOf (beginsOf r) (r .n)) x y new behind)
       where
-        w : Stands (r .waiting) y
-        w = waits-stands (r .waiting) y waits
+        w : In (r .waiting) y
+        w = waits-in (r .waiting) y waits
 
         new : (q : ℕ) → q < length (recordsOf (beginsOf r) (r .n)) → getD (recordsOf (beginsOf r) (r .n)) q 0 ≡ y → ⊥
         new q inside f =
-            let begins = joins-begins r y (record { place = q; inside = inside; is = f }) in
-            not-waits (r .waiting) y (w .place) (begins-new r y begins) (w .inside) (w .is)
+            let begins = joins-begins r y (record { at = q; inside = inside; is = f }) in
+            not-waits (r .waiting) y (w .at) (begins-new r y begins) (w .inside) (w .is)
 
 -- ---- the one that is served
 
 -- it waits no more, so it is behind each that waits
 served-behind : (r : Known) (x y : ℕ) → Sound (r .waiting) (r .n) → x < r .n → servedOf r ≡ x → Behind (waitersOf r) x y
 unfolding Behind
-served-behind r x y s inside e p q a f b g = absurd (served-gone r s (rw e inside) (stands-waits (waitersOf r) (servedOf r) p a (f ∙ sym e)))
+served-behind r x y s inside e p q a f b g = absurd (served-gone r s (rw e inside) (in-waits (waitersOf r) (servedOf r) p a (f ∙ sym e)))
 
 -- where it sets WR and y waits that can be served, it comes from the queue and isn't behind y
 not-behind : (r : Known) (x y : ℕ) → x < r .n → servedOf r ≡ x → r .sets x ≡ true
     → waitsOf (r .waiting) y ≡ true → r .can y ≡ true → Behind (r .waiting) x y → ⊥
 unfolding Behind
 not-behind r x y inside e sets waits can behind =
-    let w = waits-stands (r .waiting) y waits in
-    let from = queue-serves r (w .place) (served-sets-room r (rw e inside) (rw e sets)) (w .inside) (rw (w .is) can) in
-    omega (arith, behind (readyOf r) (w .place) (from .ready) (sym (from .served) ∙ e) (w .inside) (w .is), ready-before r (w .place) (rw (w .is) can))
+    let w = waits-in (r .waiting) y waits in
+    let from = queue-serves r (w .at) (served-sets-room r (rw e inside) (rw e sets)) (w .inside) (rw (w .is) can) in
+    omega (arith, behind (readyOf r) (w .at) (from .ready) (sym (from .served) ∙ e) (w .inside) (w .is), ready-before r (w .at) (rw (w .is) can))
 
 -- ---- over calls that each get what the last left: r i is what is known at call i; one is carried out, or declined and changes nothing
 

@@ -10,13 +10,13 @@ use lib.ListN.{length}
 use borrow.Author.Tests.{ltb-false, lt-ltb}
 use Rattle.words.proofs.BitLaws.{true-not-false}
 use Rattle.words.proofs.PickLaws.{and-both}
-use Rattle.row_signs.specs.Signs.{leftOf, waitsOf}
+use Rattle.row_signs.specs.Signs.{In, leftOf, waitsOf}
 use Rattle.row_choice.specs.Choice.{Known, recordsOf, metOf, beforeOf, fullOf, readyOf, fromQueueOf, foundOf, beginsOf, servedOf, waitersOf}
 use Rattle.row_choice.proofs.PlaceLaws.{placeOf, left-one-fewer, left-at}
 use Rattle.row_choice.proofs.RoundLaws.{met-below, before-below, met-before}
 use Rattle.row_choice.proofs.SoundLaws.{Sound, begins-held, joins-begins, served-gone}
 use Rattle.row_choice.proofs.ServedLaws.{FromQueue, from-queue, nobody-leaves, ready-before, takesOf, found-first, search-serves}
-use Rattle.row_choice.proofs.WaitsLaws.{Stands, waits-stands, stands-waits, stands-either}
+use Rattle.row_choice.proofs.WaitsLaws.{waits-in, in-waits, in-either}
 
 -- one that runs can be served, does not wait, and its turn does not set WR
 pub record Runs (r : Known) : Type 0 where
@@ -55,8 +55,8 @@ module _ (r : Known) (inside : r .last < r .n) (sound : Sound (r .waiting) (r .n
       none : ltb (readyOf r) (length (r .waiting)) ≡ false → (t : Bool) → waitsOf (r .waiting) j ≡ t → waitsOf (r .waiting) j ≡ false
       none e false h = h
       none e true h =
-          let w = waits-stands (r .waiting) j h in
-          let first : readyOf r ≤ w .place = ready-before r (w .place) (ap (λ (x : ℕ). r .can x) (w .is) ∙ can) in
+          let w = waits-in (r .waiting) j h in
+          let first : readyOf r ≤ w .at = ready-before r (w .at) (ap (λ (x : ℕ). r .can x) (w .is) ∙ can) in
           let past : length (r .waiting) ≤ readyOf r = ltb-false (readyOf r) (length (r .waiting)) e in
           absurd (omega (arith, first, past, w .inside))
 
@@ -82,14 +82,14 @@ module _ (r : Known) (inside : r .last < r .n) (sound : Sound (r .waiting) (r .n
     pub other : servedOf r < r .n → j ≡ servedOf r → ⊥
     pub either : (waitsOf (r .waiting) j ≡ true) ⊎ (r .sets j ≡ true)
 
-  left-waited : FromQueue r → (j : ℕ) → Stands (leftOf (r .waiting) (readyOf r)) j → waitsOf (r .waiting) j ≡ true
+  left-waited : FromQueue r → (j : ℕ) → In (leftOf (r .waiting) (readyOf r)) j → waitsOf (r .waiting) j ≡ true
   left-waited q j w =
-      let p = placeOf (readyOf r) (w .place) in
-      stands-waits (r .waiting) j p (omega (arith, w .inside, left-one-fewer (r .waiting) (readyOf r) (q .ready)))
-      (sym (left-at (r .waiting) (readyOf r) (q .ready) (w .place)) ∙ w .is)
+      let p = placeOf (readyOf r) (w .at) in
+      in-waits (r .waiting) j p (omega (arith, w .inside, left-one-fewer (r .waiting) (readyOf r) (q .ready)))
+      (sym (left-at (r .waiting) (readyOf r) (q .ready) (w .at)) ∙ w .is)
 
-  joined-either : (j : ℕ) → (Stands (r .waiting) j) ⊎ (Stands (recordsOf (beginsOf r) (r .n)) j) → (waitsOf (r .waiting) j ≡ true) ⊎ (r .sets j ≡ true)
-  joined-either j (inl w) = inl (stands-waits (r .waiting) j (w .place) (w .inside) (w .is))
+  joined-either : (j : ℕ) → (In (r .waiting) j) ⊎ (In (recordsOf (beginsOf r) (r .n)) j) → (waitsOf (r .waiting) j ≡ true) ⊎ (r .sets j ≡ true)
+  joined-either j (inl w) = inl (in-waits (r .waiting) j (w .at) (w .inside) (w .is))
   joined-either j (inr w) = inr (and-both (r .sets j) (fullOf r) (begins-held r j (joins-begins r j w)) .0)
 
   pub waiters-wait : (j : ℕ) → waitsOf (waitersOf r) j ≡ true → Waiting j
@@ -100,6 +100,6 @@ module _ (r : Known) (inside : r .last < r .n) (sound : Sound (r .waiting) (r .n
       }
     where
       go : (t : Bool) → fromQueueOf r ≡ t → (waitsOf (r .waiting) j ≡ true) ⊎ (r .sets j ≡ true)
-      go true e = let q = from-queue r e in inl (left-waited q j (waits-stands _ j (rw (q .left) at h)))
+      go true e = let q = from-queue r e in inl (left-waited q j (waits-in _ j (rw (q .left) at h)))
       go false e =
-          joined-either j (stands-either (r .waiting) (recordsOf (beginsOf r) (r .n)) j (waits-stands _ j (rw (nobody-leaves r e) at h)))
+          joined-either j (in-either (r .waiting) (recordsOf (beginsOf r) (r .n)) j (waits-in _ j (rw (nobody-leaves r e) at h)))

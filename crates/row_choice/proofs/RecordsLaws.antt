@@ -8,8 +8,9 @@ use native.Mathlib.Omega.{arith}
 use lib.ListN.{length, getD, length-append, List·getD-append}
 use lib.Seq.{getD-append-seam}
 use Rattle.words.specs.Word.{pick}
+use Rattle.row_signs.specs.Signs.{In}
 use Rattle.row_choice.specs.Choice.{countOf, recordsOf}
-use Rattle.row_choice.proofs.WaitsLaws.{Stands, stands-front, stands-last}
+use Rattle.row_choice.proofs.WaitsLaws.{in-front, in-last}
 
 pub records-count : (p : ℕ → Bool) (n : ℕ) → length (recordsOf p n) ≡ countOf p n
 records-count p zero = refl
@@ -69,10 +70,10 @@ records-rising p (suc n) = go (p n) refl (records-rising p n)
         (record { below = λ i inside. omega (arith, r .below i inside); holds = r .holds; rising = r .rising })
 
 -- each that the test holds of is among them
-pub records-all : (p : ℕ → Bool) (n j : ℕ) → j < n → p j ≡ true → Stands (recordsOf p n) j
+pub records-all : (p : ℕ → Bool) (n j : ℕ) → j < n → p j ≡ true → In (recordsOf p n) j
 records-all p zero j l h = absurd (omega (arith, l))
 records-all p (suc n) j l h = go (decLt j n) (records-all p n j)
   where
-    go : Dec (j < n) → (j < n → p j ≡ true → Stands (recordsOf p n) j) → Stands (recordsOf p (suc n)) j
-    go (yes below) earlier = stands-front (recordsOf p n) (pick (p n) (n ∷ []) []) j (earlier below h)
-    go (no last) earlier = let same : n ≡ j = omega (arith, l, last) in rw (same, h) (stands-last (recordsOf p j) j)
+    go : Dec (j < n) → (j < n → p j ≡ true → In (recordsOf p n) j) → In (recordsOf p (suc n)) j
+    go (yes below) earlier = in-front (recordsOf p n) (pick (p n) (n ∷ []) []) j (earlier below h)
+    go (no last) earlier = let same : n ≡ j = omega (arith, l, last) in rw (same, h) (in-last (recordsOf p j) j)

@@ -11,11 +11,11 @@ use lib.ListN.{length, getD, length-append, List·getD-append}
 use borrow.Author.Tests.{not-true}
 use Rattle.words.proofs.BitLaws.{true-not-false}
 use Rattle.words.proofs.PickLaws.{and-both}
-use Rattle.row_signs.specs.Signs.{leftOf, waitsOf}
+use Rattle.row_signs.specs.Signs.{In, leftOf, waitsOf}
 use Rattle.row_choice.specs.Choice.{Known, countOf, recordsOf, beforeOf, readyOf, fromQueueOf, openOf, heldOf, foundOf, beginsOf, servedOf, waitersOf}
 use Rattle.row_choice.proofs.PlaceLaws.{after-seam, placeOf, left-one-fewer, left-at}
 use Rattle.row_choice.proofs.RecordsLaws.{records-count, records-rising}
-use Rattle.row_choice.proofs.WaitsLaws.{Stands, waits-stands, not-waits, stands-either}
+use Rattle.row_choice.proofs.WaitsLaws.{waits-in, not-waits, in-either}
 use Rattle.row_choice.proofs.ServedLaws.{FromQueue, Taken, from-queue, from-list, nobody-leaves}
 
 -- each entry is one of the first n records, and none is there twice
@@ -71,8 +71,8 @@ sound-length l (suc n) s = go (waitsOf l n) refl (λ k t. sound-length k n t)
   where
     go : (t : Bool) → waitsOf l n ≡ t → ((k : List ℕ) → Sound k n → length k ≤ n) → length l ≤ suc n
     go true e shorter =
-        let w = waits-stands l n e in
-        omega (arith, shorter (leftOf l (w .place)) (without-it l n (w .place) s (w .inside) (w .is)), left-one-fewer l (w .place) (w .inside))
+        let w = waits-in l n e in
+        omega (arith, shorter (leftOf l (w .at)) (without-it l n (w .at) s (w .inside) (w .is)), left-one-fewer l (w .at) (w .inside))
     go false e shorter = omega (arith, shorter l (without-none l n s e))
 
 -- ---- others join
@@ -136,8 +136,8 @@ module _ (r : Known) (j : ℕ) (h : beginsOf r j ≡ true) where
   begins-held = begins-both .1
 
 -- one of those that join begins to wait
-pub joins-begins : (r : Known) (j : ℕ) → Stands (recordsOf (beginsOf r) (r .n)) j → beginsOf r j ≡ true
-joins-begins r j w = rw (w .is) at (records-rising (beginsOf r) (r .n) .holds (w .place) (w .inside))
+pub joins-begins : (r : Known) (j : ℕ) → In (recordsOf (beginsOf r) (r .n)) j → beginsOf r j ≡ true
+joins-begins r j w = rw (w .is) at (records-rising (beginsOf r) (r .n) .holds (w .at) (w .inside))
 
 pub waiters-sound : (r : Known) → Sound (r .waiting) (r .n) → Sound (waitersOf r) (r .n)
 waiters-sound r s = go (fromQueueOf r) refl
@@ -151,25 +151,25 @@ waiters-sound r s = go (fromQueueOf r) refl
 -- ---- the one that is served does not wait then
 
 -- it left the queue
-left-gone : (r : Known) → Sound (r .waiting) (r .n) → FromQueue r → Stands (leftOf (r .waiting) (readyOf r)) (servedOf r) → ⊥
+left-gone : (r : Known) → Sound (r .waiting) (r .n) → FromQueue r → In (leftOf (r .waiting) (readyOf r)) (servedOf r) → ⊥
 left-gone r s q w =
     let i = readyOf r in
-    let inside : placeOf i (w .place) < length (r .waiting) = omega (arith, left-one-fewer (r .waiting) i (q .ready), w .inside) in
-    let same : placeOf i (w .place) ≡ i =
-    one-place (r .waiting) (r .n) (placeOf i (w .place)) i s inside (q .ready)
-    (sym (left-at (r .waiting) i (q .ready) (w .place)) ∙ w .is ∙ q .served) in
+    let inside : placeOf i (w .at) < length (r .waiting) = omega (arith, left-one-fewer (r .waiting) i (q .ready), w .inside) in
+    let same : placeOf i (w .at) ≡ i =
+    one-place (r .waiting) (r .n) (placeOf i (w .at)) i s inside (q .ready)
+    (sym (left-at (r .waiting) i (q .ready) (w .at)) ∙ w .is ∙ q .served) in
     omega (arith, same)
 
 -- or it did not wait, and is not held back
-list-gone : (r : Known) → Taken r (servedOf r) → (Stands (r .waiting) (servedOf r)) ⊎ (Stands (recordsOf (beginsOf r) (r .n)) (servedOf r)) → ⊥
-list-gone r f (inl w) = not-waits (r .waiting) (servedOf r) (w .place) (f .free) (w .inside) (w .is)
+list-gone : (r : Known) → Taken r (servedOf r) → (In (r .waiting) (servedOf r)) ⊎ (In (recordsOf (beginsOf r) (r .n)) (servedOf r)) → ⊥
+list-gone r f (inl w) = not-waits (r .waiting) (servedOf r) (w .at) (f .free) (w .inside) (w .is)
 list-gone r f (inr w) = true-not-false (sym (begins-held r (servedOf r) (joins-begins r (servedOf r) w)) ∙ f .held)
 
 pub served-gone : (r : Known) → Sound (r .waiting) (r .n) → servedOf r < r .n → waitsOf (waitersOf r) (servedOf r) ≡ true → ⊥
 served-gone r s inside waits = go (fromQueueOf r) refl
   where
     go : (t : Bool) → fromQueueOf r ≡ t → ⊥
-    go true e = let q = from-queue r e in left-gone r s q (waits-stands _ (servedOf r) (rw (q .left) at waits))
+    go true e = let q = from-queue r e in left-gone r s q (waits-in _ (servedOf r) (rw (q .left) at waits))
     go false e =
         list-gone r (from-list r e inside)
-        (stands-either (r .waiting) (recordsOf (beginsOf r) (r .n)) (servedOf r) (waits-stands _ (servedOf r) (rw (nobody-leaves r e) at waits)))
+        (in-either (r .waiting) (recordsOf (beginsOf r) (r .n)) (servedOf r) (waits-in _ (servedOf r) (rw (nobody-leaves r e) at waits)))

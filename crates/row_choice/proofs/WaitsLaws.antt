@@ -12,48 +12,42 @@ use lib.Seq.{getD-append-seam}
 use borrow.Author.Tests.{eqb-true, eq-eqb}
 use Rattle.words.proofs.BitLaws.{true-not-false}
 use Rattle.words.proofs.FirstLaws.{any-some, some-any}
-use Rattle.row_signs.specs.Signs.{waitsOf}
+use Rattle.row_signs.specs.Signs.{In, waitsOf}
 use Rattle.row_choice.proofs.PlaceLaws.{after-seam}
 
--- record j is at a place
-pub record Stands (l : List ℕ) (j : ℕ) : Type 0 where
-  pub place : ℕ
-  pub inside : place < length l
-  pub is : getD l place 0 ≡ j
-
-pub waits-stands : (l : List ℕ) (j : ℕ) → waitsOf l j ≡ true → Stands l j
-waits-stands l j h =
+pub waits-in : (l : List ℕ) (j : ℕ) → waitsOf l j ≡ true → In l j
+waits-in l j h =
     let s = any-some (λ p. eqb (getD l p 0) j) (length l) h in
-    record { place = s .number; inside = s .below; is = eqb-true (getD l (s .number) 0) j (s .holds) }
+    record { at = s .number; inside = s .below; is = eqb-true (getD l (s .number) 0) j (s .holds) }
 
-pub stands-waits : (l : List ℕ) (j p : ℕ) → p < length l → getD l p 0 ≡ j → waitsOf l j ≡ true
-stands-waits l j p inside e = some-any (λ p. eqb (getD l p 0) j) (length l) p inside (eq-eqb (getD l p 0) j e)
+pub in-waits : (l : List ℕ) (j p : ℕ) → p < length l → getD l p 0 ≡ j → waitsOf l j ≡ true
+in-waits l j p inside e = some-any (λ p. eqb (getD l p 0) j) (length l) p inside (eq-eqb (getD l p 0) j e)
 
 pub not-waits : (l : List ℕ) (j p : ℕ) → waitsOf l j ≡ false → p < length l → getD l p 0 ≡ j → ⊥
-not-waits l j p h inside e = true-not-false (sym (stands-waits l j p inside e) ∙ h)
+not-waits l j p h inside e = true-not-false (sym (in-waits l j p inside e) ∙ h)
 
 -- ---- a longer list
 
-pub stands-front : (l m : List ℕ) (j : ℕ) → Stands l j → Stands (l ++ m) j
-stands-front l m j w =
+pub in-front : (l m : List ℕ) (j : ℕ) → In l j → In (l ++ m) j
+in-front l m j w =
     record {
-      place = w .place;
+      at = w .at;
       inside = omega (arith, w .inside, length-append l m);
-      is = List·getD-append l m 0 (w .place) (w .inside) ∙ w .is;
+      is = List·getD-append l m 0 (w .at) (w .inside) ∙ w .is;
     }
 
-pub stands-last : (l : List ℕ) (j : ℕ) → Stands (l ++ (j ∷ [])) j
-stands-last l j = record { place = length l; inside = omega (arith, length-append l (j ∷ [])); is = getD-append-seam l j [] 0 }
+pub in-last : (l : List ℕ) (j : ℕ) → In (l ++ (j ∷ [])) j
+in-last l j = record { at = length l; inside = omega (arith, length-append l (j ∷ [])); is = getD-append-seam l j [] 0 }
 
 -- a record of two lists together is one of either
-pub stands-either : (l m : List ℕ) (j : ℕ) → Stands (l ++ m) j → (Stands l j) ⊎ (Stands m j)
-stands-either l m j w = go (decLt (w .place) (length l))
+pub in-either : (l m : List ℕ) (j : ℕ) → In (l ++ m) j → (In l j) ⊎ (In m j)
+in-either l m j w = go (decLt (w .at) (length l))
   where
-    go : Dec (w .place < length l) → (Stands l j) ⊎ (Stands m j)
-    go (yes before) = inl (record { place = w .place; inside = before; is = sym (List·getD-append l m 0 (w .place) before) ∙ w .is })
+    go : Dec (w .at < length l) → (In l j) ⊎ (In m j)
+    go (yes before) = inl (record { at = w .at; inside = before; is = sym (List·getD-append l m 0 (w .at) before) ∙ w .is })
     go (no after) =
         inr (record {
-          place = w .place - length l;
+          at = w .at - length l;
           inside = omega (arith, w .inside, after, length-append l m);
-          is = sym (after-seam l m (w .place) (omega (arith, after))) ∙ w .is;
+          is = sym (after-seam l m (w .at) (omega (arith, after))) ∙ w .is;
         })
