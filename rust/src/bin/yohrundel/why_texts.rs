@@ -13,7 +13,7 @@ pub fn explained(decline: Decline) -> &'static Explanation {
 }
 
 /// In the order of the numbers, from 1.
-const EXPLANATIONS: [Explanation; 22] = [
+const EXPLANATIONS: [Explanation; Decline::ALL.len()] = [
     Explanation {
         when: "Q, B or P is outside its list or range.",
         remedy: "give the sizes of the sign's part. Q is 1, 2, 4, 8, 16, 32, 64 or 128, B is 1 to \
