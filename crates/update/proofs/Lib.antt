@@ -9,6 +9,7 @@ pub mod PlacedLaws
 pub mod FormLaws
 pub mod Bench
 pub mod ActionLaws
+pub mod Listed
 pub mod TurnLaws
 pub mod Blocks
 pub mod BlockActions

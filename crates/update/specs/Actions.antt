@@ -110,7 +110,7 @@ recorded Step = record { kind = 1; number = 0; form = 0; unused = 0; value = 0 }
 unfoldable pub totalOf : Geometry → ℕ
 totalOf g = 12 + 8 * pagesOf g + 112 * (pagesOf g * g .q)
 
--- ---- the action at a place, by division (`action-listed` of proofs/ActionLaws: it is the list's)
+-- ---- the action at a place, by division (Listed `action`: it is the list's)
 
 -- the actions of a page, and of a quad
 abbrev pub pageActions : Geometry → ℕ

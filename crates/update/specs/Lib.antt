@@ -1,4 +1,5 @@
 pub mod Actions
+pub mod Listed
 pub mod Start
 pub mod Turn
 pub mod PowerFail
