@@ -64,14 +64,14 @@ apart-true words a b h = go (leb (a + words) b) refl h
     go false e h = inr (leb-true _ _ h)
 
 -- banks 2 × j and 2 × j + 1 are those of record j
-one-start : (signs : List Sign) (j : ℕ) → startOf signs (2 * j) ≡ signAt signs j .one
+pub one-start : (signs : List Sign) (j : ℕ) → startOf signs (2 * j) ≡ signAt signs j .one
 unfolding startOf
 one-start signs j =
     let half : 2 * j / 2 ≡ j = omega arith in
     let even : 2 * j % 2 ≡ 0 = omega arith in
     rw (even, half)
 
-two-start : (signs : List Sign) (j : ℕ) → startOf signs (2 * j + 1) ≡ signAt signs j .two
+pub two-start : (signs : List Sign) (j : ℕ) → startOf signs (2 * j + 1) ≡ signAt signs j .two
 unfolding startOf
 two-start signs j =
     let half : (2 * j + 1) / 2 ≡ j = omega arith in
@@ -86,7 +86,7 @@ module _ (signs : List Sign) (n words store : ℕ) (h : banksStandOf signs n wor
       and-both
       (leb (startOf signs b + words) store)
       (allBelow (λ e. apartOf words (startOf signs e) (startOf signs b)) b)
-      (all-below (bankStandsOf signs words store) (2 * n) h b l)
+      (all-below (bankStandsOf (startOf signs) words store) (2 * n) h b l)
 
   bank-lies : (b : ℕ) → b < 2 * n → startOf signs b + words ≤ store
   bank-lies b l = leb-true _ _ (bank-both b l .0)
@@ -218,7 +218,7 @@ module _ (g : Geometry) (k : ℕ) (signs : List Sign) (n : ℕ) (queue : Queue) 
       own-or-other (yes same) = rw same (j .own-apart (b / 2) (omega arith))
       own-or-other (no other) = apart other .one-two
 
-  bank-test : (b : ℕ) → b < 2 * n → bankStandsOf signs (bankWordsOf g) store b ≡ true
+  bank-test : (b : ℕ) → b < 2 * n → bankStandsOf (startOf signs) (bankWordsOf g) store b ≡ true
   unfolding bankStandsOf
   bank-test b l =
       let others = all-hold (λ e. apartOf (bankWordsOf g) (startOf signs e) (startOf signs b)) b
@@ -227,7 +227,7 @@ module _ (g : Geometry) (k : ℕ) (signs : List Sign) (n : ℕ) (queue : Queue) 
 
   banks-test : banksStandOf signs n (bankWordsOf g) store ≡ true
   unfolding banksStandOf
-  banks-test = all-hold (bankStandsOf signs (bankWordsOf g) store) (2 * n) bank-test
+  banks-test = all-hold (bankStandsOf (startOf signs) (bankWordsOf g) store) (2 * n) bank-test
 
   row-test : rowStandsOf g k signs n queue last store ≡ true
   unfolding rowStandsOf

@@ -36,18 +36,21 @@ queueStandsOf q n = leb (q .count) most && allBelow (entryStandsOf q n) (q .coun
 unfoldable pub startOf : List Sign → ℕ → ℕ
 startOf signs b = let s = signAt signs (b / 2) in pick (eqb (b % 2) 0) (s .one) (s .two)
 
+-- a list that has at b where bank b starts, for the banks of n records
+abbrev pub StartsOf : List Sign → ℕ → List ℕ → Type 0
+StartsOf signs n starts = (b : ℕ) → b < 2 * n → getD starts b 0 ≡ startOf signs b
+
 -- two banks of so many words do not overlap
 unfoldable pub apartOf : ℕ → ℕ → ℕ → Bool
 apartOf words a b = leb (a + words) b || leb (b + words) a
 
--- bank b lies in a store of so many words, apart from those before it
-unfoldable pub bankStandsOf : List Sign → ℕ → ℕ → ℕ → Bool
-bankStandsOf signs words store b =
-    leb (startOf signs b + words) store && allBelow (λ e. apartOf words (startOf signs e) (startOf signs b)) b
+-- by where each bank starts: bank b lies in a store of so many words, apart from those before it
+unfoldable pub bankStandsOf : (ℕ → ℕ) → ℕ → ℕ → ℕ → Bool
+bankStandsOf start words store b = leb (start b + words) store && allBelow (λ e. apartOf words (start e) (start b)) b
 
 -- no "overlapping or overhanging banks" of n records
 unfoldable pub banksStandOf : List Sign → ℕ → ℕ → ℕ → Bool
-banksStandOf signs n words store = allBelow (bankStandsOf signs words store) (2 * n)
+banksStandOf signs n words store = allBelow (bankStandsOf (startOf signs) words store) (2 * n)
 
 -- none of the conditions of 19 applies
 unfoldable pub rowStandsOf : Geometry → ℕ → List Sign → ℕ → Queue → ℕ → ℕ → Bool

@@ -1,12 +1,12 @@
 // Decline 19: whether a row, its queue and its store can be served.
 // What asks for InRange or for room here is no call of the row: row_decline judges these first.
 ghost use mathlib.Core.Path.{_≡_};
-ghost use Prim.Native.Nat.{_%_, _≤_, _<_};
+ghost use Prim.Native.Nat.{_≤_, _<_};
 ghost use lib.Dec.{eqb};
-ghost use lib.ListN.{getD};
-ghost use Rattle.words.specs.Word.{pick, anyBelow};
+ghost use lib.ListN.{length, getD};
+ghost use Rattle.words.specs.Word.{anyBelow};
 ghost use Rattle.geometry.specs.Banks.{InRange};
-ghost use Rattle.row_judge.specs.Judge.{inRowOf, entryStandsOf, queueStandsOf, apartOf, bankStandsOf, banksStandOf, rowStandsOf, rowDeclineOf};
+ghost use Rattle.row_judge.specs.Judge.{inRowOf, entryStandsOf, queueStandsOf, StartsOf, apartOf, bankStandsOf, banksStandOf, rowStandsOf, rowDeclineOf};
 use geometry::banks::Geometry;
 use geometry::banks::bank_words;
 use geometry::lent::Lent;
@@ -75,15 +75,21 @@ fn queue_stands(queue: Queue, n: usize) -> bool
     true
 }
 
-// Where a bank of the row starts, bank 1 and bank 2 of each record by turns: one of the two starts of its record.
-fn start(one: u32, two: u32, b: usize) -> usize
-    ensures { λ r. ⌜ r ≡ pick (eqb (b % 2) 0) one two ⌝ }
-    ensures { λ r. ⌜ r < 4294967296 ⌝ }
+// Where the banks of n records start, bank 1 and bank 2 of each record by turns.
+fn starts_of(row: Row, n: usize) -> [u32; 64]
+    requires { ⌜ n ≤ 32 ⌝ }
+    ensures { λ r. ⌜ StartsOf (row .signs) n r ⌝ }
 {
-    if b % 2 == 0 {
-        return one as usize;
+    let signs = row.signs;
+    let mut starts = [0; 64];
+    let mut i = 0;
+    while i < n {
+        let own = signs[i];
+        starts[2 * i] = own.one;
+        starts[2 * i + 1] = own.two;
+        i += 1;
     }
-    two as usize
+    starts
 }
 
 // Whether two banks of so many words do not overlap; starts are numbers of 32 bits.
@@ -98,21 +104,18 @@ fn apart(words: usize, a: usize, b: usize) -> bool
 }
 
 // Whether a bank lies in a store of so many words, apart from the banks before it.
-fn bank_stands(row: Row, words: usize, store: usize, b: usize) -> bool
-    requires { ⌜ b < 64 ⌝ }
+fn bank_stands(starts: &[u32], words: usize, store: usize, b: usize) -> bool
+    requires { ⌜ b < length (now starts) ⌝ }
     requires { ⌜ words ≤ 4294967296 ⌝ }
-    ensures { λ r. ⌜ r ≡ bankStandsOf (row .signs) words store b ⌝ }
+    ensures { λ r. ⌜ r ≡ bankStandsOf (λ e. getD (now (starts .entry)) e 0) words store b ⌝ }
 {
-    let signs = row.signs;
-    let own = signs[b / 2];
-    let at = start(own.one, own.two, b);
+    let at = starts[b] as usize;
     if store < at + words {
         return false;
     }
     let mut e = 0;
     while e < b {
-        let other = signs[e / 2];
-        if !apart(words, start(other.one, other.two, e), at) {
+        if !apart(words, starts[e] as usize, at) {
             return false;
         }
         e += 1;
@@ -126,9 +129,10 @@ fn banks_stand(row: Row, n: usize, words: usize, store: usize) -> bool
     requires { ⌜ words ≤ 4294967296 ⌝ }
     ensures { λ r. ⌜ r ≡ banksStandOf (row .signs) n words store ⌝ }
 {
+    let starts = starts_of(row, n);
     let mut b = 0;
     while b < 2 * n {
-        if !bank_stands(row, words, store, b) {
+        if !bank_stands(&starts, words, store, b) {
             return false;
         }
         b += 1;

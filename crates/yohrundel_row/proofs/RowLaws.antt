@@ -9,7 +9,7 @@ use native.Mathlib.Omega.{arith}
 use lib.Dec.{eqb, ltb}
 use lib.ListN.{length, getD}
 use borrow.Author.Tests.{ltb-true, lt-ltb, le-ltb, lt-leb}
-use Rattle.words.specs.Word.{pick, allBelow, firstFrom}
+use Rattle.words.specs.Word.{pick, firstFrom}
 use Rattle.words.specs.declared.decline.Decline.{Decline}
 use Rattle.words.specs.Decline.{acceptedOf, firstOf}
 use Rattle.words.proofs.BitLaws.{true-not-false}
@@ -22,8 +22,9 @@ use Rattle.device.specs.Record.{running}
 use Rattle.row_signs.specs.declared.sign.Sign.{Sign}
 use Rattle.row_signs.specs.declared.queue.Queue.{Queue}
 use Rattle.row_signs.specs.Signs.{noSign, signAt, waitingOf}
-use Rattle.row_judge.specs.Judge.{startOf, apartOf, bankStandsOf, banksStandOf, rowStandsOf, rowDeclineOf}
+use Rattle.row_judge.specs.Judge.{startOf, banksStandOf, rowStandsOf, rowDeclineOf}
 use Rattle.row_judge.proofs.JudgeLaws.{stands}
+use Rattle.row_judge.proofs.StartLaws.{stand-alike}
 use Rattle.row_choice.specs.Choice.{countOf, metOf, Known, readyOf, openOf, heldOf, foundOf, beginsOf, servedOf, waitersOf}
 use Rattle.row_choice.proofs.RecordsLaws.{records-same}
 use Rattle.row_choice.proofs.RoundLaws.{met-below}
@@ -40,10 +41,6 @@ use Rattle.row_list.proofs.ListLaws.{gathered-at}
 -- of each number below n they say the same
 abbrev Agree : (ℕ → Bool) → (ℕ → Bool) → ℕ → Type 0
 Agree p q n = (j : ℕ) → j < n → p j ≡ q j
-
-all-same : (p q : ℕ → Bool) (n : ℕ) → Agree p q n → allBelow p n ≡ allBelow q n
-all-same p q zero same = refl
-all-same p q (suc n) same = rw (all-same p q n (λ j l. same j (omega arith)), same n (omega arith)) refl
 
 count-same : (p q : ℕ → Bool) (n : ℕ) → Agree p q n → countOf p n ≡ countOf q n
 count-same p q zero same = refl
@@ -106,22 +103,9 @@ module _ (g : Geometry) (k : ℕ) (xs ys : List Sign) (n : ℕ) (queue : Queue) 
   unfolding startOf
   start-same b l = ap (λ (s : Sign). pick (eqb (b % 2) 0) (s .one) (s .two)) (same (b / 2) (omega arith))
 
-  bank-same : (words room : ℕ) → Agree (bankStandsOf xs words room) (bankStandsOf ys words room) (2 * n)
-  unfolding bankStandsOf
-  bank-same words room b l =
-      rw (
-        start-same b l,
-        all-same
-            (λ e. apartOf words (startOf xs e) (startOf ys b))
-            (λ e. apartOf words (startOf ys e) (startOf ys b))
-            b
-            (λ e m. ap (λ (start : ℕ). apartOf words start (startOf ys b)) (start-same e (omega (arith, m, l)))),
-      )
-      refl
-
   banks-same : (words room : ℕ) → banksStandOf xs n words room ≡ banksStandOf ys n words room
   unfolding banksStandOf
-  banks-same words room = all-same (bankStandsOf xs words room) (bankStandsOf ys words room) (2 * n) (bank-same words room)
+  banks-same words room = stand-alike (startOf xs) (startOf ys) (2 * n) words room start-same
 
   -- the decline
   abbrev decline : List Sign → Decline
