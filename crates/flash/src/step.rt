@@ -92,7 +92,7 @@ pub fn step_effect(g: Geometry, d: Device, one: &[u32], two: &[u32], sram: &[u32
     StepEffect { answer, write }
 }
 
-// A step that is not declined, with its write. No call of the device: its callers judge the declines first.
+// A step that is not declined, with its write, for a flash read that waits. No call of the device: its callers judge the declines first.
 pub fn step_accepted(
     g: Geometry,
     d: Device,
@@ -114,12 +114,15 @@ pub fn step(g: Geometry, d: Device, one: &mut [u32], two: &mut [u32], sram: &[u3
     ensures { λ r. ⌜ leaves r (one .exit) (two .exit) ≡ stepOf g (lent d (one .entry) (two .entry)) (now (sram .entry)) ⌝ }
 {
     let decline = step_decline(g, d, one.len(), two.len(), sram.len());
-    if decline.is_accepted() {
-        return step_accepted(g, d, one, two, sram);
+    if !decline.is_accepted() {
+        return Answer {
+            decline,
+            device: d,
+            event: false,
+        };
     }
-    Answer {
-        decline,
-        device: d,
-        event: false,
-    }
+    let e = step_effect(g, d, one, two, sram);
+    let write = e.write;
+    apply(one, two, write);
+    e.answer
 }
