@@ -4,10 +4,15 @@ use native.Mathlib.Omega.{arith}
 use Rattle.conformance_cases.proofs.take_case.Statement.{statement}
 use Rattle.conformance_cases.proofs.take_case.Tie as tie
 
--- the entry, from after the four lists
+-- from after the four lists: the second bank's, the first's, and the entry
+abbrev two-taken : tie.After-slice-known6 → tie.After-take-list-if2
+two-taken c = c .before .before .before .before .before .before
+
+abbrev one-taken : tie.After-take-list-if2 → tie.After-take-list-if
+one-taken c = c .before .before .before .before
+
 abbrev entry : tie.After-slice-known6 → tie.Start
-entry c =
-    c .before .before .before .before .before .before .before .before .before .before .before .before .before .before .before .before .before
+entry c = one-taken (two-taken c) .before .before .before .before .before .before .before
 
 asked : tie.Need-take-requires-2
 asked c κs = omega (arith, entry c .pre .1)

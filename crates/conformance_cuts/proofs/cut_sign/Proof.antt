@@ -24,7 +24,8 @@ second-long c = sym (length-take-le _ _ (search needs))
 
 lengths : tie.Need-fill-and-cut-requires
 lengths c κs =
-    let start = c .before .before .before .before .before .before .before .before .before .before in
+    let lists-cut = c .before .before .before .before .before in
+    let start = lists-cut .before .before .before .before .before in
     ((length-take-le _ _ (search needs), length-take-le _ _ (search needs), length-take-le _ _ (search needs)), start .pre .1 .1)
 
 pub cut-sign-spec : {M : Type 1} → statement M

@@ -10,9 +10,13 @@ use Rattle.play.proofs.play_input.Tie as tie
 script-long : tie.Need-slice-aggregate-print
 script-long c = sym (length-take-le _ _ (omega arith))
 
+-- the first read, from the second
+abbrev read-full : tie.After-is-end-arg → tie.After-read-full
+read-full c = c .before .before .before
+
 -- the call's arguments, after the print
 abbrev entry : tie.After-print → tie.Start
-entry c = c .before .before .before .before .before .before .before .before .before .before .before .before .before .before
+entry c = read-full (c .before .before .before .before .before .before .before) .before .before .before .before
 
 output-inside : tie.Need-slice-reshare-prefix-write-all
 output-inside c =

@@ -33,14 +33,17 @@ tears c κs =
 
 as-long : tie.Need-compared-requires
 as-long c κs =
-    let test = c .before .before .before .before .before .before .before .before .before in
+    let banks-back = c .before .before in
+    let torn = banks-back .before .before .before .before in
+    let test = torn .before .before .before in
     let r = reset-ready _ _ _ _ _ _ (accepted test) in
     (r .lent .range, (omega (arith, r .lent .banks .0), omega (arith, r .lent .banks .1 .0)))
 
 carried : tie.Need-returns-2
 unfolding explainedOf
 carried c =
-    let torn = c .before .before .before .before .before .before .before .before in
+    let banks-back = c .before .before .before .before in
+    let torn = banks-back .before .before .before .before in
     rw (
       accepted (torn .before .before .before),
       c .reset-device .ensures,

@@ -10,8 +10,12 @@ use Rattle.script_play.specs.Play.{declineOf, playOf}
 use Rattle.script_play.proofs.play.Statement.{statement}
 use Rattle.script_play.proofs.play.Tie as tie
 
+-- the entry, from the decline
+abbrev entry : tie.After-play-decline → tie.Start
+entry c = c .before .before .before .before .before .before
+
 -- the play is accepted
-accepted : (c : tie.Else1) → let a = c .before .before .before .before .before .before .before .before .args in
+accepted : (c : tie.Else1) → let a = entry (c .before .before) .args in
     acceptedOf (declineOf (a .g) (a .sram .now) (state (a .d) (a .one .now) (a .two .now)) (a .script .now)) ≡ true
 accepted c = went-on (c .before .before .play-decline .ensures) (c .before .is-accepted .ensures) (c .if1 .left)
 

@@ -31,8 +31,11 @@ starts c = (omega arith, record { reached = refl; written = refl; counted = refl
 abbrev entry : tie.At-loop Inv-loop μ-loop → tie.Start Inv-loop μ-loop
 entry c = c .before .before .before .before .before .before
 
+abbrev lined : tie.After-slice-known6 Inv-loop μ-loop → tie.After-write-line-arg Inv-loop μ-loop
+lined c = c .before .before .before .before
+
 abbrev played : tie.After-slice-known6 Inv-loop μ-loop → tie.After-play-record Inv-loop μ-loop
-played c = c .before .before .before .before .before .before .before .before .before .before
+played c = lined c .before .before .before .before .before .before
 
 abbrev test : tie.After-slice-known6 Inv-loop μ-loop → tie.In-loop Inv-loop μ-loop
 test c = played c .before .before .before .before

@@ -4,15 +4,21 @@ use native.Mathlib.Omega.{arith}
 use Rattle.conformance_cuts.proofs.cuts.put_sign.Statement.{statement}
 use Rattle.conformance_cuts.proofs.cuts.put_sign.Tie as tie
 
--- the places' lines, and the restart before them
+-- both banks handed back; the places' lines; the first line's numbers; and the restart before them
+abbrev banks-back : tie.After-slice-known10 → tie.After-slice-known8
+banks-back c = c .before .before .before .before
+
 abbrev placed : tie.After-slice-known10 → tie.After-put-places
-placed c = c .before .before .before .before .before .before .before .before
+placed c = banks-back c .before .before .before .before
+
+abbrev third-put : tie.After-put-places → tie.After-put3
+third-put c = let line-ended = c .before .before .before .before .before in line-ended .before .before .before .before .before
+
+abbrev started : tie.After-put-places → tie.After-start
+started c = third-put c .before .before .before .before .before .before .before
 
 abbrev restarted : tie.After-put-places → tie.After-restart
-restarted c =
-    let line-ended = c .before .before .before .before .before in
-    let device = line-ended .before .before .before .before .before .before .before .before .before .before .before .before .before .before .before in
-    device .before .before .before .before .before
+restarted c = let device = started c .before .before .before in device .before .before .before .before .before
 
 one-kept : tie.Need-same-length
 one-kept c = omega (arith, placed c .put-places .kept, restarted (placed c) .restart .kept)

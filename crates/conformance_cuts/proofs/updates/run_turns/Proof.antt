@@ -16,7 +16,8 @@ abbrev μ-loop : tie.MeasureT-loop
 
 no-overflow : tie.Need-add-turns Inv-loop μ-loop
 no-overflow c =
-    let test = c .before .before .before .before .before .before .before .before .before in
+    let turned = c .before .before .before .before .before in
+    let test = turned .before .before .before .before in
     let start = test .before .before .before .before .before in
     omega (arith, start .fits .count, test .loop-test .taken)
 

@@ -19,20 +19,24 @@ erases c = rw (c .doing .ensures, ← c .before .before .op .ensures, lt-ltb _ _
 
 -- ---- what holds after each test
 
+-- the entry, from the first test
+abbrev entry : tie.Else1 → tie.Start
+entry c = c .before .before .before
+
 -- the operation programs
-programs : (c : tie.Else1) → ltb rowProgram (opOf (c .before .before .before .args .d)) ≡ false
+programs : (c : tie.Else1) → ltb rowProgram (opOf (entry c .args .d)) ≡ false
 programs c = rw (← c .before .op .ensures) (le-ltb _ _ (c .if1 .left))
 
 -- the quad is blank
-blank : (c : tie.Else2) → isBlankOf (c .before .before .before .before .before .args .old) ≡ true
+blank : (c : tie.Else2) → isBlankOf (entry (c .before .before) .args .old) ≡ true
 blank c = sym (c .before .is-blank .ensures) ∙ not-false _ (c .if2 .left)
 
 -- the operation programs a row
-row : (c : tie.Else3) → eqb (opOf (c .before .before .before .before .before .before .args .d)) quadProgram ≡ false
+row : (c : tie.Else3) → eqb (opOf (entry (c .before .before .before) .args .d)) quadProgram ≡ false
 row c = rw (← c .before .before .before .before .op .ensures) (ne-eqb _ _ (c .if3 .left))
 
 -- the row's data lies in the SRAM
-from-sram : (c : tie.Else4) → let a = c .before .before .before .before .before .before .before .before .args in
+from-sram : (c : tie.Else4) → let a = entry (c .before .before .before .before .before) .args in
     sourceFitsOf (a .d) (length (a .sram .now)) ≡ true
 from-sram c = sym (c .before .source-fits .ensures) ∙ not-false _ (c .if4 .left)
 

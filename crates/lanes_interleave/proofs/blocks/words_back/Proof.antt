@@ -8,7 +8,8 @@ use Rattle.lanes_interleave.proofs.blocks.words_back.Tie as tie
 returns : tie.Need-returns
 returns c =
     let written = c .before .before in
-    let args = written .before .before .before .before .before .before .before .before .args in
+    let lanes-cut = written .before .before .before .before .before in
+    let args = lanes-cut .before .before .before .args in
     let bytes = written .interleave-four .last .1 .1 .1 .1 .0 in
     block-back (args .source .now) (args .target .now) bytes _ (args .n) (args .from) (args .to) (omega arith) (omega arith) (omega arith)
     (written .interleave-four .ensures)

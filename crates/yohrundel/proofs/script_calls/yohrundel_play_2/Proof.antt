@@ -5,7 +5,8 @@ use Rattle.yohrundel.proofs.script_calls.yohrundel_play_2.Tie as tie
 
 answered : tie.Need-returns
 answered c =
-    let e = c .before .before .before .before .before .before .before .before .play .ensures in
+    let banks-back = c .before .before .before .before in
+    let e = banks-back .before .before .before .before .play .ensures in
     (rw (c .number .ensures, ← e), (rw (← e), (rw (← e), rw (← e))))
 
 pub yohrundel-play-2-spec : {M : Type 1} → statement M
