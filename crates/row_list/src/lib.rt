@@ -15,7 +15,7 @@ pub fn few(n: usize) -> usize
     if 32 < n { 32 } else { n }
 }
 
-// Up to 32 records of a lent list, by value.
+// Up to 32 records of a lent list, by value. No call of the row: its caller shows that the list has them.
 pub fn gather(signs: &[Sign], n: usize) -> Row
     requires { ⌜ (n ≤ length (now signs)) × (n ≤ 32) ⌝ }
     ensures { λ r. ⌜ r ≡ gathered (now (signs .entry)) n ⌝ }

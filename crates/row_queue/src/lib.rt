@@ -1,4 +1,5 @@
 // The queue of a row: an entry joins it, and one leaves it.
+// What asks for room here is no call of the row: schedule_row judges decline 19 first.
 ghost use mathlib.Core.Path.{_≡_};
 ghost use mathlib.Core.List.{[]};
 ghost use Prim.Native.Nat.{_≤_, _<_};

@@ -17,7 +17,7 @@ pub fn no_signs() -> Row
     Row { signs }
 }
 
-// The records with another at i.
+// The records with another at i. No call of the row: its callers show that there is such a place.
 pub fn with_sign(row: Row, i: usize, s: Sign) -> Row
     requires { ⌜ i < 32 ⌝ }
     ensures { λ r. ⌜ r ≡ withSign row i s ⌝ }
