@@ -100,6 +100,7 @@ fn put_case(
 }
 
 // Puts what a call gives for the inputs from a position to the line's end, or a question mark where they are no case.
+// No call of the device: its callers show that the used bytes are within the buffer.
 pub fn put_call(
     out: &mut [u8],
     used: usize,
