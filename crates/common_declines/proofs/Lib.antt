@@ -1,3 +1,4 @@
 pub mod PossibleLaws
 pub mod CommonDeclineLaws
 pub mod TableLaws
+pub mod DeclineLaws

@@ -8,6 +8,7 @@ use lib.Dec.{leb}
 use borrow.Author.Tests.{leb-true, le-leb}
 use Rattle.words.specs.Word.{pick}
 use Rattle.words.specs.declared.decline.Decline.{Decline}
+use Rattle.words.specs.Decline.{numberOf}
 use Rattle.words.proofs.PickLaws.{and-both}
 use Rattle.geometry.specs.declared.banks.Geometry.{Geometry}
 use Rattle.geometry.specs.Banks.{listedOf, mostBootPages, mostProgramPages, inRangeUpTo, inRangeOf}
@@ -41,7 +42,7 @@ every-page-count g p h low high =
     let was = passed mostBefore g h in
     rw (was .listed, was .b-low, was .b-high, le-leb 1 p low, le-leb p 128 high)
 
-declined : (g : Geometry) (lengths : List ℕ) (sram : ℕ) → 128 < g .p → lentDeclineOf g lengths sram ≡ Decline.Geometry
+declined : (g : Geometry) (lengths : List ℕ) (sram : ℕ) → 128 < g .p → numberOf (lentDeclineOf g lengths sram) ≡ 1
 unfolding lentDeclineUpTo
 declined g lengths sram high = rw (refused (inRangeOf g) refl)
   where

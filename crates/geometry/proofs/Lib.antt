@@ -1,3 +1,4 @@
 pub mod LentLaws
 pub mod SizeLaws
 pub mod LargerBanks
+pub mod FitLaws

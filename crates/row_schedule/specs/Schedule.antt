@@ -51,11 +51,11 @@ declined decline queue last = record { decline = numberOf decline; idle = false;
 
 -- "With nobody to serve the call says idle": the last served stays
 abbrev pub idle : Queue → ℕ → ScheduleAnswer
-idle queue last = record { decline = 0; idle = true; served = 0; event = false; queue = queue; last = last }
+idle queue last = record { decline = numberOf Decline.Accepted; idle = true; served = 0; event = false; queue = queue; last = last }
 
 -- a sign was served, with the event of its turn
 abbrev pub served : ℕ → Bool → Queue → ScheduleAnswer
-served number event queue = record { decline = 0; idle = false; served = number; event = event; queue = queue; last = number }
+served number event queue = record { decline = numberOf Decline.Accepted; idle = false; served = number; event = event; queue = queue; last = number }
 
 -- "A call does one turn for one sign."
 abbrev pub servedSign : ℕ → SignTurning → Queue → Scheduling

@@ -4,15 +4,18 @@ use mathlib.Core.Path.{_≡_, refl, sym, ap, _∙_}
 use mathlib.Core.Bool.{Bool, true, false, not, _&&_}
 use Prim.Native.Nat.{ℕ}
 use native.Mathlib.Omega.{arith}
+use mathlib.Core.List.{List, [], _∷_}
 use lib.Dec.{eqb, ltb}
-use borrow.Author.Tests.{eqb-true, le-ltb}
+use lib.ListN.{getD}
+use borrow.Author.Tests.{eqb-true, eq-eqb, le-ltb}
 use Rattle.words.specs.Word.{pick}
 use Rattle.words.proofs.BitLaws.{true-not-false}
 use Rattle.sequence.specs.declared.comparison.Reason.{Reason}
+use Rattle.sequence.specs.declared.comparison.Reason.the-variants.{Higher, Equal, OnlyOneValid, NoneValid, NotCompared}
 use Rattle.sequence.specs.declared.comparison.Comparison.{Comparison}
 use Rattle.sequence.specs.Sequence.{tseqOf, validOf}
 use Rattle.sequence.specs.Comparison.{reasonNumberOf, comparison, compareOf, bfswapOf}
-use Rattle.sequence.specs.Reasons.{Reasons}
+use Rattle.sequence.specs.Reasons.{ChosenBefore, Reasons, Comparisons}
 
 -- ---- the comparison by three tests: the words' validity, and whether their T is equal
 abbrev resultOf : Bool → Bool → Bool → Bool → Comparison
@@ -94,7 +97,7 @@ module _ (first other : ℕ) where
   abbrev more : Bool
   more = ltb (tseqOf first) (tseqOf other)
 
-  pub reasons : Reasons first other
+  reasons : Reasons first other (compareOf first other)
   unfolding compareOf
   reasons =
       record {
@@ -139,3 +142,53 @@ module _ (first other : ℕ) where
             f o e;
         chosen = record { both = both-valid; only-first = only-first; only-other = only-second; none = none-valid };
       }
+
+-- ---- and nothing else is as asked
+
+abbrev listed : List Reason
+listed = Higher ∷ Equal ∷ OnlyOneValid ∷ NoneValid ∷ NotCompared ∷ []
+
+back : (r : Reason) → getD listed (reasonNumberOf r) Higher ≡ r
+back Higher = refl
+back Equal = refl
+back OnlyOneValid = refl
+back NoneValid = refl
+back NotCompared = refl
+
+-- a reason is known by its number
+pub one-reason : (r q : Reason) → reasonNumberOf r ≡ reasonNumberOf q → r ≡ q
+one-reason r q h = sym (back r) ∙ ap (λ (n : ℕ). getD listed n Higher) h ∙ back q
+
+one-bank : (first other : ℕ) (a b : Bool) → ChosenBefore first other a → ChosenBefore first other b → a ≡ b
+one-bank first other a b p q = go (validOf first) refl (validOf other) refl
+  where
+    go : (f : Bool) → validOf first ≡ f → (o : Bool) → validOf other ≡ o → a ≡ b
+    go true f true o = p .both f o ∙ sym (q .both f o)
+    go true f false o = p .only-first f o ∙ sym (q .only-first f o)
+    go false f true o = p .only-other f o ∙ sym (q .only-other f o)
+    go false f false o = p .none f o ∙ sym (q .none f o)
+
+module _ (first other : ℕ) (c d : Comparison) (p : Reasons first other c) (q : Reasons first other d) where
+  -- what c gives by a number that d gives
+  told : (r : Reason) (number : ℕ) → reasonNumberOf r ≡ number → d .reason ≡ r → gives c number ≡ gives d number → c .reason ≡ d .reason
+  told r number is e same =
+      one-reason _ _
+      (eqb-true _ _ (same ∙ eq-eqb _ _ (ap reasonNumberOf e ∙ is)) ∙ sym is ∙ sym (ap reasonNumberOf e))
+
+  same-reason : c .reason ≡ d .reason
+  same-reason = go (d .reason) refl
+    where
+      go : (r : Reason) → d .reason ≡ r → c .reason ≡ d .reason
+      go Higher e = told Higher 0 refl e (p .higher ∙ sym (q .higher))
+      go Equal e = told Equal 1 refl e (p .equal ∙ sym (q .equal))
+      go OnlyOneValid e = told OnlyOneValid 2 refl e (p .only-one ∙ sym (q .only-one))
+      go NoneValid e = told NoneValid 3 refl e (p .none ∙ sym (q .none))
+      go NotCompared e = told NotCompared 4 refl e (p .compared ∙ sym (q .compared))
+
+  same-comparison : c ≡ d
+  same-comparison =
+      let bank = one-bank first other (c .second) (d .second) (p .chosen) (q .chosen) in
+      λ i. record { second = bank i; reason = same-reason i }
+
+pub comparisons : Comparisons
+comparisons = record { meets = reasons; fixes = λ first other c p. same-comparison first other c (compareOf first other) p (reasons first other) }

@@ -1,4 +1,5 @@
--- W-205, "Why this bank?": each reason holds exactly under its condition, the bank for each, and the bank that 01 chose before.
+-- W-205, "Why this bank?": each reason holds exactly under its condition, the bank for each, and the bank that 01 chose before; and that
+-- this fixes the answer.
 -- Assumes nothing.
 use Prim.Native.Nat.{ℕ}
 use mathlib.Core.Path.{_≡_}
@@ -6,7 +7,8 @@ use mathlib.Core.Bool.{Bool, true, false, not, _&&_}
 use lib.Dec.{eqb, ltb}
 use Rattle.words.specs.Word.{pick}
 use Rattle.sequence.specs.Sequence.{tseqOf, validOf}
-use Rattle.sequence.specs.Comparison.{reasonNumberOf, compareOf, bfswapOf}
+use Rattle.sequence.specs.declared.comparison.Comparison.{Comparison}
+use Rattle.sequence.specs.Comparison.{reasonNumberOf, compareOf}
 
 -- 01's cases, which choose whether bank 2 goes lower
 pub record ChosenBefore (first other : ℕ) (second : Bool) : Type 0 where
@@ -18,23 +20,27 @@ pub record ChosenBefore (first other : ℕ) (second : Bool) : Type 0 where
   -- "none, bank 1"
   pub none : validOf first ≡ false → validOf other ≡ false → second ≡ false
 
--- of the comparison of the sequence words of bank 1 and bank 2
-module _ (first other : ℕ) where
-  -- it gives the reason of this number
-  abbrev pub Gives : ℕ → Bool
-  Gives number = eqb (reasonNumberOf (compareOf first other .reason)) number
+-- an answer has the reason of this number
+abbrev pub Gives : Comparison → ℕ → Bool
+Gives c number = eqb (reasonNumberOf (c .reason)) number
 
-  pub record Reasons : Type 0 where
-    -- "higher, equal, only one valid, none valid": 0 to 3, each exactly where
-    pub higher : Gives 0 ≡ (validOf first && (validOf other && not (eqb (tseqOf first) (tseqOf other))))
-    pub equal : Gives 1 ≡ (validOf first && (validOf other && eqb (tseqOf first) (tseqOf other)))
-    pub only-one : Gives 2 ≡ pick (validOf first) (not (validOf other)) (validOf other)
-    pub none : Gives 3 ≡ (not (validOf first) && not (validOf other))
-    pub compared : Gives 4 ≡ false
-    -- the bank for each: the higher T, bank 1, the valid one; "With none valid the sign still maps bank 1, with its reason."
-    pub higher-bank : Gives 0 ≡ true → bfswapOf first other ≡ ltb (tseqOf first) (tseqOf other)
-    pub equal-bank : Gives 1 ≡ true → bfswapOf first other ≡ false
-    pub only-one-bank : Gives 2 ≡ true → bfswapOf first other ≡ validOf other
-    pub none-bank : Gives 3 ≡ true → bfswapOf first other ≡ false
-    -- "Banks chosen .. don't change."
-    pub chosen : ChosenBefore first other (bfswapOf first other)
+-- what W-205 asks of an answer to the comparison of the sequence words of bank 1 and bank 2
+pub record Reasons (first other : ℕ) (c : Comparison) : Type 0 where
+  -- "higher, equal, only one valid, none valid": 0 to 3, each exactly where
+  pub higher : Gives c 0 ≡ (validOf first && (validOf other && not (eqb (tseqOf first) (tseqOf other))))
+  pub equal : Gives c 1 ≡ (validOf first && (validOf other && eqb (tseqOf first) (tseqOf other)))
+  pub only-one : Gives c 2 ≡ pick (validOf first) (not (validOf other)) (validOf other)
+  pub none : Gives c 3 ≡ (not (validOf first) && not (validOf other))
+  pub compared : Gives c 4 ≡ false
+  -- the bank for each: the higher T, bank 1, the valid one; "With none valid the sign still maps bank 1, with its reason."
+  pub higher-bank : Gives c 0 ≡ true → c .second ≡ ltb (tseqOf first) (tseqOf other)
+  pub equal-bank : Gives c 1 ≡ true → c .second ≡ false
+  pub only-one-bank : Gives c 2 ≡ true → c .second ≡ validOf other
+  pub none-bank : Gives c 3 ≡ true → c .second ≡ false
+  -- "Banks chosen .. don't change."
+  pub chosen : ChosenBefore first other (c .second)
+
+pub record Comparisons : Type 0 where
+  -- the comparison is answered so, and no other answer is as asked
+  pub meets : (first other : ℕ) → Reasons first other (compareOf first other)
+  pub fixes : (first other : ℕ) (c : Comparison) → Reasons first other c → c ≡ compareOf first other

@@ -5,3 +5,5 @@ pub mod FirstLaws
 pub mod MaskLaws
 pub mod QuadLaws
 pub mod DeclineLaws
+pub mod Numbers
+pub mod ListLaws

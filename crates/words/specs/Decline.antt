@@ -5,7 +5,7 @@ use lib.Dec.{eqb}
 use Rattle.words.specs.Word.{pick}
 use Rattle.words.specs.declared.decline.Decline.{Decline}
 use Rattle.words.specs.declared.decline.Decline.the-variants.{Accepted, Geometry, Length, Device, Register, Running, Idle, ResetKind, Address}
-use Rattle.words.specs.declared.decline.Decline.the-variants.{Busy, Sequence, LastSequence, Protection, Place, Script, Hours, NoWait}
+use Rattle.words.specs.declared.decline.Decline.the-variants.{Sequence, LastSequence, Protection, Place, Script, Hours, NoWait}
 use Rattle.words.specs.declared.decline.Decline.the-variants.{ScriptBuffer, SheetBuffer, Row, Records, NotShown, Lanes}
 
 abbrev pub numberOf : Decline → ℕ
@@ -18,7 +18,6 @@ numberOf Running = 5
 numberOf Idle = 6
 numberOf ResetKind = 7
 numberOf Address = 8
-numberOf Busy = 9
 numberOf Sequence = 10
 numberOf LastSequence = 11
 numberOf Protection = 12

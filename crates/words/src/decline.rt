@@ -21,8 +21,7 @@ pub enum Decline {
     ResetKind,
     // 8: no such address or page.
     Address,
-    // 9: the bank is being worked on. No call gives it: a flash read waits.
-    Busy,
+    // 9 is no longer given: a read of the bank that is worked on waits.
     // 10: the sequence words or the mapping do not allow an update.
     Sequence,
     // 11: the last sequence number is in use.
@@ -66,7 +65,6 @@ impl Decline {
             Decline::Idle => 6,
             Decline::ResetKind => 7,
             Decline::Address => 8,
-            Decline::Busy => 9,
             Decline::Sequence => 10,
             Decline::LastSequence => 11,
             Decline::Protection => 12,

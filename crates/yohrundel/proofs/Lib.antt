@@ -1,2 +1,1 @@
-pub mod NoNine
 pub mod NeverWait

@@ -30,53 +30,49 @@ reset-kind c = rw (c .enum-told8 .given .1)
 address : tie.Need-returns-9
 address c = rw (c .enum-told9 .given .1)
 
-busy : tie.Need-returns-10
-busy c = rw (c .enum-told10 .given .1)
+sequence : tie.Need-returns-10
+sequence c = rw (c .enum-told10 .given .1)
 
-sequence : tie.Need-returns-11
-sequence c = rw (c .enum-told11 .given .1)
+last-sequence : tie.Need-returns-11
+last-sequence c = rw (c .enum-told11 .given .1)
 
-last-sequence : tie.Need-returns-12
-last-sequence c = rw (c .enum-told12 .given .1)
+protection : tie.Need-returns-12
+protection c = rw (c .enum-told12 .given .1)
 
-protection : tie.Need-returns-13
-protection c = rw (c .enum-told13 .given .1)
+place : tie.Need-returns-13
+place c = rw (c .enum-told13 .given .1)
 
-place : tie.Need-returns-14
-place c = rw (c .enum-told14 .given .1)
+script : tie.Need-returns-14
+script c = rw (c .enum-told14 .given .1)
 
-script : tie.Need-returns-15
-script c = rw (c .enum-told15 .given .1)
+hours : tie.Need-returns-15
+hours c = rw (c .enum-told15 .given .1)
 
-hours : tie.Need-returns-16
-hours c = rw (c .enum-told16 .given .1)
+no-wait : tie.Need-returns-16
+no-wait c = rw (c .enum-told16 .given .1)
 
-no-wait : tie.Need-returns-17
-no-wait c = rw (c .enum-told17 .given .1)
+script-buffer : tie.Need-returns-17
+script-buffer c = rw (c .enum-told17 .given .1)
 
-script-buffer : tie.Need-returns-18
-script-buffer c = rw (c .enum-told18 .given .1)
+sheet-buffer : tie.Need-returns-18
+sheet-buffer c = rw (c .enum-told18 .given .1)
 
-sheet-buffer : tie.Need-returns-19
-sheet-buffer c = rw (c .enum-told19 .given .1)
+row : tie.Need-returns-19
+row c = rw (c .enum-told19 .given .1)
 
-row : tie.Need-returns-20
-row c = rw (c .enum-told20 .given .1)
+records : tie.Need-returns-20
+records c = rw (c .enum-told20 .given .1)
 
-records : tie.Need-returns-21
-records c = rw (c .enum-told21 .given .1)
+not-shown : tie.Need-returns-21
+not-shown c = rw (c .enum-told21 .given .1)
 
-not-shown : tie.Need-returns-22
-not-shown c = rw (c .enum-told22 .given .1)
-
-lanes : tie.Need-returns-23
-lanes c = rw (c .enum-told23 .given .1)
+lanes : tie.Need-returns-22
+lanes c = rw (c .enum-told22 .given .1)
 
 pub number-spec : {M : Type 1} → statement M
 number-spec =
     tie.close
     (tie.spec
-    (λ c. search needs)
     (λ c. search needs)
     (λ c. search needs)
     (λ c. search needs)
@@ -108,7 +104,6 @@ number-spec =
     idle
     reset-kind
     address
-    busy
     sequence
     last-sequence
     protection
