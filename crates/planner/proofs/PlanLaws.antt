@@ -12,14 +12,15 @@ use lib.Dec.{ltb}
 use lib.ListN.{length}
 use borrow.Author.Tests.{ltb-true, ltb-false, lt-ltb, le-ltb}
 use Rattle.words.specs.declared.decline.Decline.{Decline}
+use Rattle.words.specs.Decline.{numberOf}
 use Rattle.words.proofs.BitLaws.{true-not-false}
 use Rattle.planner.specs.declared.plan.Planned.{Planned}
 use Rattle.planner.specs.Windows.{week, windowCountOf, windowsInRangeOf, numbersInRangeOf, inRangeOf}
 use Rattle.planner.specs.Planner.{fitsOf, leastWaitOf, planned, answerOf, planOf}
-use Rattle.planner.specs.PlanLaws.{InOneWindow, Plans}
+use Rattle.planner.specs.PlanLaws.{InRange, InOneWindow, Plans}
 use Rattle.words.proofs.FirstLaws.{first-below}
 use Rattle.planner.proofs.FitLaws.{fits-one, one-fits}
-use Rattle.planner.proofs.RangeLaws.{all-in, inside}
+use Rattle.planner.proofs.RangeLaws.{all-in, inside, facts, tested}
 
 module _ (minute duration : ℕ) (lent : List ℕ) where
   pub plan-out : inRangeOf minute duration lent ≡ false → planned Decline.Hours 0 ≡ planOf minute duration lent
@@ -42,31 +43,32 @@ module _ (minute duration : ℕ) (lent : List ℕ) where
         let every : i ≡ windowCountOf lent = omega arith in
         rw (all-in minute duration lent numbers (rw every at windows), ← every, ← least, lt-ltb wait week l)
 
--- ---- back from the answer to the tests
+-- ---- back from the number of the answer to the tests
 
-is-accepted : (within fits : Bool) (wait : ℕ) → answerOf within fits wait .decline ≡ Decline.Accepted → (within ≡ true) × (fits ≡ true)
+abbrev numbered : Bool → Bool → ℕ → ℕ
+numbered within fits wait = numberOf (answerOf within fits wait .decline)
+
+is-accepted : (within fits : Bool) (wait : ℕ) → numbered within fits wait ≡ 0 → (within ≡ true) × (fits ≡ true)
 is-accepted true true wait h = (refl, refl)
-is-accepted true false wait h = let z : _≡_ {A = ℕ} 0 1 = cc in absurd (omega arith)
-is-accepted false fits wait h = let z : _≡_ {A = ℕ} 0 1 = cc in absurd (omega arith)
+is-accepted true false wait h = absurd (omega (arith, h))
+is-accepted false fits wait h = absurd (omega (arith, h))
 
-is-no-wait : (within fits : Bool) (wait : ℕ) → answerOf within fits wait .decline ≡ Decline.NoWait → fits ≡ false
-is-no-wait true false wait h = refl
-is-no-wait true true wait h = let z : _≡_ {A = ℕ} 0 1 = cc in absurd (omega arith)
-is-no-wait false fits wait h = let z : _≡_ {A = ℕ} 0 1 = cc in absurd (omega arith)
+is-no-wait : (within fits : Bool) (wait : ℕ) → numbered within fits wait ≡ 16 → (within ≡ true) × (fits ≡ false)
+is-no-wait true false wait h = (refl, refl)
+is-no-wait true true wait h = absurd (omega (arith, h))
+is-no-wait false fits wait h = absurd (omega (arith, h))
 
-is-hours : (within fits : Bool) (wait : ℕ) → answerOf within fits wait .decline ≡ Decline.Hours → within ≡ false
+is-hours : (within fits : Bool) (wait : ℕ) → numbered within fits wait ≡ 15 → within ≡ false
 is-hours false fits wait h = refl
-is-hours true true wait h = let z : _≡_ {A = ℕ} 0 1 = cc in absurd (omega arith)
-is-hours true false wait h = let z : _≡_ {A = ℕ} 0 1 = cc in absurd (omega arith)
+is-hours true true wait h = absurd (omega (arith, h))
+is-hours true false wait h = absurd (omega (arith, h))
 
-one-of-three : (within fits : Bool) (wait : ℕ)
-    → let answer = answerOf within fits wait .decline in
-    (answer ≡ Decline.Accepted) ⊎ ((answer ≡ Decline.Hours) ⊎ (answer ≡ Decline.NoWait))
+one-of-three : (within fits : Bool) (wait : ℕ) → let n = numbered within fits wait in (n ≡ 0) ⊎ ((n ≡ 15) ⊎ (n ≡ 16))
 one-of-three true true wait = inl refl
 one-of-three true false wait = inr (inr refl)
 one-of-three false fits wait = inr (inl refl)
 
-declined-wait : (within fits : Bool) (wait : ℕ) → (answerOf within fits wait .decline ≡ Decline.Accepted → ⊥) → answerOf within fits wait .wait ≡ 0
+declined-wait : (within fits : Bool) (wait : ℕ) → (numbered within fits wait ≡ 0 → ⊥) → answerOf within fits wait .wait ≡ 0
 declined-wait true true wait h = absurd (h refl)
 declined-wait true false wait h = refl
 declined-wait false fits wait h = refl
@@ -78,6 +80,9 @@ module _ (minute duration : ℕ) (lent : List ℕ) where
   abbrev first : ℕ
   first = leastWaitOf minute duration lent (windowCountOf lent)
 
+  abbrev number : ℕ
+  number = numberOf (planOf minute duration lent .decline)
+
   -- the answer where the numbers are in range and the first wait that fits is below the week
   found : inRangeOf minute duration lent ≡ true → first < week → planned Decline.Accepted first ≡ planOf minute duration lent
   found range l =
@@ -85,42 +90,55 @@ module _ (minute duration : ℕ) (lent : List ℕ) where
       plan-found minute duration lent _ _ (le-refl _) (le-refl _) numbers windows refl l
 
   -- before the first wait that fits, the minutes lie in no window
-  none-before : (wait : ℕ) → wait < first → InOneWindow minute duration lent wait → ⊥
-  none-before wait l one = true-not-false (sym (one-fits minute duration lent wait one) ∙ first-below fits week .before wait l)
+  none-before : inRangeOf minute duration lent ≡ true → (wait : ℕ) → wait < first → InOneWindow minute duration lent wait → ⊥
+  none-before range wait l one =
+      let (numbers, windows) = inside minute duration lent range in
+      true-not-false (sym (one-fits minute duration lent wait windows one) ∙ first-below fits week .before wait l)
 
-  accepted : inRangeOf minute duration lent ≡ true → (wait : ℕ) → wait < week → InOneWindow minute duration lent wait
-      → planOf minute duration lent .decline ≡ Decline.Accepted
-  accepted range wait l one = go (decLt first week)
+  accepted : InRange minute duration lent → (wait : ℕ) → wait < week → InOneWindow minute duration lent wait → number ≡ 0
+  accepted r wait l one = go (decLt first week)
     where
-      go : Dec (first < week) → planOf minute duration lent .decline ≡ Decline.Accepted
-      go (yes below) = ap (λ (p : Planned). p .decline) (sym (found range below))
-      go (no above) = absurd (none-before wait (omega arith) one)
+      range : inRangeOf minute duration lent ≡ true
+      range = tested minute duration lent r
 
-  smallest : planOf minute duration lent .decline ≡ Decline.Accepted
+      go : Dec (first < week) → number ≡ 0
+      go (yes below) = ap (λ (p : Planned). numberOf (p .decline)) (sym (found range below))
+      go (no above) = absurd (none-before range wait (omega arith) one)
+
+  smallest : number ≡ 0
       → let wait = planOf minute duration lent .wait in
       (wait < week) × InOneWindow minute duration lent wait × ((less : ℕ) → less < wait → InOneWindow minute duration lent less → ⊥)
   unfolding planOf
   smallest h =
       let (range, below) = is-accepted (inRangeOf minute duration lent) (ltb first week) first h in
+      let (numbers, windows) = inside minute duration lent range in
       let l : first < week = ltb-true first week below in
       let e : planOf minute duration lent .wait ≡ first = ap (λ (p : Planned). p .wait) (sym (found range l)) in
-      rw e (l, fits-one minute duration lent first (first-below fits week .found l), none-before)
+      rw e (l, fits-one minute duration lent first windows (first-below fits week .found l), none-before range)
 
-  no-wait : planOf minute duration lent .decline ≡ Decline.NoWait → (wait : ℕ) → wait < week → InOneWindow minute duration lent wait → ⊥
+  no-wait : number ≡ 16 → (wait : ℕ) → wait < week → InOneWindow minute duration lent wait → ⊥
   unfolding planOf
   no-wait h wait l =
-      none-before wait (omega (arith, ltb-false first week (is-no-wait (inRangeOf minute duration lent) (ltb first week) first h)))
+      let (range, none) = is-no-wait (inRangeOf minute duration lent) (ltb first week) first h in
+      none-before range wait (omega (arith, ltb-false first week none))
 
-  only-then : planOf minute duration lent .decline ≡ Decline.Hours → inRangeOf minute duration lent ≡ false
+  only-then : number ≡ 15 → InRange minute duration lent → ⊥
   unfolding planOf
-  only-then h = is-hours (inRangeOf minute duration lent) (ltb first week) first h
+  only-then h r =
+      true-not-false (sym (tested minute duration lent r) ∙ is-hours (inRangeOf minute duration lent) (ltb first week) first h)
 
-  answered : let answer = planOf minute duration lent .decline in
-      (answer ≡ Decline.Accepted) ⊎ ((answer ≡ Decline.Hours) ⊎ (answer ≡ Decline.NoWait))
+  out-of-range : (InRange minute duration lent → ⊥) → number ≡ 15
+  out-of-range out = go (inRangeOf minute duration lent) refl
+    where
+      go : (t : Bool) → inRangeOf minute duration lent ≡ t → number ≡ 15
+      go true e = absurd (out (facts minute duration lent e))
+      go false e = ap (λ (p : Planned). numberOf (p .decline)) (sym (plan-out minute duration lent e))
+
+  answered : (number ≡ 0) ⊎ ((number ≡ 15) ⊎ (number ≡ 16))
   unfolding planOf
   answered = one-of-three (inRangeOf minute duration lent) (ltb first week) first
 
-  beside : (planOf minute duration lent .decline ≡ Decline.Accepted → ⊥) → planOf minute duration lent .wait ≡ 0
+  beside : (number ≡ 0 → ⊥) → planOf minute duration lent .wait ≡ 0
   unfolding planOf
   beside = declined-wait (inRangeOf minute duration lent) (ltb first week) first
 
@@ -131,7 +149,7 @@ module _ (minute duration : ℕ) (lent : List ℕ) where
         accepted = accepted;
         smallest = smallest;
         no-wait = no-wait;
-        out-of-range = λ out. ap (λ (p : Planned). p .decline) (sym (plan-out minute duration lent out));
+        out-of-range = out-of-range;
         only-then = only-then;
         beside = beside;
       }
