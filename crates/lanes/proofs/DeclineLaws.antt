@@ -3,6 +3,7 @@
 use mathlib.Core.Path.{_≡_, refl}
 use mathlib.Core.Bool.{Bool, true, false, _&&_}
 use Prim.Native.Nat.{ℕ, _*_, _/_, _%_}
+use native.Mathlib.Decide.{ℕ-discrete}
 use native.Mathlib.Omega.{arith}
 use borrow.Author.Tests.{eqb-true, eq-eqb, ne-eqb}
 use lib.Dec.{eqb}
@@ -35,3 +36,12 @@ accepted-lengths source target h =
     let (same, even) = and-both (eqb source target) (eqb (source % 4) 0) (held _ _ _ refl h .0) in
     let e = eqb-true (source % 4) 0 even in
     (omega arith, omega (arith, eqb-true source target same))
+
+-- where there is no n for which both lengths are 4×n
+pub declined-lengths : (source target : ℕ) → ((n : ℕ) → source ≡ 4 * n → target ≡ 4 * n → ⊥) → lanesDeclineOf source target ≡ Decline.Lanes
+declined-lengths source target none = go (ℕ-discrete source target) (ℕ-discrete (source % 4) 0)
+  where
+    go : Dec (source ≡ target) → Dec (source % 4 ≡ 0) → lanesDeclineOf source target ≡ Decline.Lanes
+    go (no unequal) even = unequal-declined source target unequal
+    go (yes same) (no uneven) = uneven-declined source target uneven
+    go (yes same) (yes even) = absurd (none (source / 4) (omega (arith, even)) (omega (arith, even, same)))

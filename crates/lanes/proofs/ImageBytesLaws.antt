@@ -2,11 +2,10 @@
 -- Assumes nothing.
 use mathlib.Core.Path.{_≡_, _∙_}
 use mathlib.Core.List.{List}
-use Prim.Native.Nat.{ℕ, _+_, _*_, _/_, _%_, _^_, _≤_, _<_}
-use native.Mathlib.Nat.{div-div-eq-div-mul, mod-eq-of-lt, mod-lt}
-use native.Mathlib.Decide.{decLe}
+use Prim.Native.Nat.{ℕ, _+_, _*_, _/_, _%_, _^_, _<_}
+use native.Mathlib.Nat.{div-div-eq-div-mul, mod-eq-of-lt}
 use native.Mathlib.Omega.{arith}
-use lib.ListN.{length, getD, List·getD-eq-default}
+use lib.ListN.{length, getD}
 use lib.Seq.{ext-getD}
 use Rattle.words.specs.Quad.{wordAt}
 use Rattle.lanes.specs.Lanes.{wordsIn}
@@ -18,7 +17,7 @@ unfolding bytesOf
 bytes-length words = tabulate-length _ (4 * length words)
 
 -- byte k of word i
-byte-at : (words : List ℕ) (i k : ℕ) → i < length words → k < 4 → getD (bytesOf words) (4 * i + k) 0 ≡ byteOf (wordAt words i) k
+pub byte-at : (words : List ℕ) (i k : ℕ) → i < length words → k < 4 → getD (bytesOf words) (4 * i + k) 0 ≡ byteOf (wordAt words i) k
 unfolding bytesOf
 byte-at words i k h l =
     let word : (4 * i + k) / 4 ≡ i = omega arith in
@@ -44,14 +43,6 @@ word-again words i h small =
       byte-at words i 2 h (omega arith),
       byte-at words i 3 h (omega arith),
     )
-
-pub bytes-small : (words : List ℕ) (i : ℕ) → getD (bytesOf words) i 0 < 256
-unfolding bytesOf
-bytes-small words i = go (decLe (4 * length words) i)
-  where
-    go : Dec (4 * length words ≤ i) → getD (bytesOf words) i 0 < 256
-    go (yes past) = rw (List·getD-eq-default (bytesOf words) 0 {n = i} (omega (arith, bytes-length words))) (omega arith)
-    go (no inside) = rw (tabulate-at _ (4 * length words) i (omega arith)) (mod-lt _ (omega arith))
 
 pub words-back : (words : List ℕ) → ((i : ℕ) → wordAt words i < 2 ^ 32) → wordsOf (bytesOf words) ≡ words
 unfolding wordsOf

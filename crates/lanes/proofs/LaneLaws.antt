@@ -9,14 +9,8 @@ use lib.ListN.{length, getD, length-append, List·getD-append}
 use lib.Seq.{getD-append-add, ext-getD}
 use Rattle.words.proofs.CaseLaws.{below-four}
 use Rattle.lanes.specs.Lanes.{wordsIn, laneOf, lanesOutOf, lanesBackOf}
+use Rattle.lanes.specs.RoundTrip.{inWords, inLanes}
 use Rattle.lanes.proofs.TabulateLaws.{tabulate-length, tabulate-at}
-
--- the place of byte k of word j, and of byte j of lane k where there are n words
-abbrev pub inWords : ℕ → ℕ → ℕ
-inWords k j = 4 * j + k
-
-abbrev pub inLanes : ℕ → ℕ → ℕ → ℕ
-inLanes n k j = k * n + j
 
 lane-length : (bytes : List ℕ) (k : ℕ) → length (laneOf bytes k) ≡ wordsIn bytes
 lane-length bytes k = tabulate-length _ (wordsIn bytes)

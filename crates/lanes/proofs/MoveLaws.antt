@@ -9,7 +9,8 @@ use lib.ListN.{length, getD, set}
 use Rattle.lanes_interleave.specs.Blocks.{WordsBack}
 use Rattle.lanes_interleave.proofs.RoundLaws.{Moved, moved-further, Apart, moved-next}
 use Rattle.lanes.specs.Lanes.{wordsIn, lanesOutOf, lanesBackOf}
-use Rattle.lanes.proofs.LaneLaws.{inWords, inLanes, out-length, out-at, back-length, back-at, by-words, by-lanes}
+use Rattle.lanes.specs.RoundTrip.{inWords, inLanes}
+use Rattle.lanes.proofs.LaneLaws.{out-length, out-at, back-length, back-at, by-words, by-lanes}
 
 -- the words before word i, of n, are moved to their lanes, and back
 abbrev pub MovedOut : ℕ → List ℕ → List ℕ → ℕ → Type 0
