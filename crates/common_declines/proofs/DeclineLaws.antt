@@ -3,7 +3,8 @@ use mathlib.Core.Path.{_≡_, refl, sym, _∙_}
 use mathlib.Core.Bool.{Bool, true, false}
 use mathlib.Core.List.{List}
 use Prim.Native.Nat.{ℕ}
-use Rattle.words.specs.Decline.{numberOf, acceptedOf}
+use Rattle.words.specs.declared.decline.Decline.{Decline}
+use Rattle.words.specs.Decline.{numberOf, acceptedOf, firstOf}
 use Rattle.words.proofs.BitLaws.{true-not-false}
 use Rattle.geometry.specs.declared.banks.Geometry.{Geometry}
 use Rattle.geometry.specs.Banks.{inRangeOf}
@@ -28,9 +29,10 @@ module _ (g : Geometry) (d : Device) (lengths : List ℕ) (sram : ℕ) where
   unfolding commonDeclineOf lentDeclineUpTo
   used u = rw (u .listed, fitted g lengths sram (u .fits), u .possible)
 
-  pub common-meets : CommonDeclines g d lengths sram (numberOf (commonDeclineOf g d lengths sram))
+  -- whatever declines come after them
+  pub common-first : (other : Decline) → CommonDeclines g d lengths sram (numberOf (firstOf (commonDeclineOf g d lengths sram) other))
   unfolding commonDeclineOf lentDeclineUpTo
-  common-meets =
+  common-first other =
       record {
         lent = record { geometry = λ out. rw out; lengths-differ = λ listed unfit. rw (listed, go (lengthsFitOf g lengths sram) refl unfit) };
         impossible = λ listed f not-possible. rw (listed, fitted g lengths sram f, not-possible);

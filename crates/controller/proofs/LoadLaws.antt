@@ -12,7 +12,7 @@ use lib.Seq.{getD-set-same}
 use borrow.Author.Tests.{le-leb, lt-leb, ne-eqb, eqb-true}
 use Rattle.words.specs.Word.{pick, clearOf}
 use Rattle.words.specs.declared.decline.Decline.{Decline}
-use Rattle.words.specs.Decline.{acceptedOf}
+use Rattle.words.specs.Decline.{numberOf, acceptedOf}
 use Rattle.words.proofs.PickLaws.{pick-both, and-both}
 use Rattle.words.proofs.BitLaws.{true-not-false}
 use Rattle.geometry.specs.declared.banks.Geometry.{Geometry}
@@ -147,20 +147,20 @@ unfolding storeDeclineOf
 declines g d r form listed can formed = rw (opens g d [] 0 listed tt (omega arith) can, formed)
 
 pub answers : (g : Geometry) (s : State) (r form value : ℕ) → inRangeOf g ≡ true → possibleOf g (s .device) ≡ true → running (s .device) ≡ true
-    → hasFormOf r form ≡ true → answerOf g s (store r form value) ≡ pick (loadsOf r) Decline.Accepted Decline.Running
+    → hasFormOf r form ≡ true → numberOf (answerOf g s (store r form value)) ≡ pick (loadsOf r) 0 5
 unfolding storeAcceptedOf
 answers g s r form value listed can on formed = go (loadsOf r) refl
   where
     d : Device
     d = s .device
 
-    go : (t : Bool) → loadsOf r ≡ t → storeOf g d r form value .decline ≡ pick t Decline.Accepted Decline.Running
+    go : (t : Bool) → loadsOf r ≡ t → numberOf (storeOf g d r form value .decline) ≡ pick t 0 5
     go true loads =
-        ap (λ (a : Answer). a .decline) (store-carried g d r form value listed can formed (asks d r on ∙ loads))
-        ∙ pick-both (λ (a : Answer). a .decline ≡ Decline.Accepted) (eqb r 0) refl refl
+        ap (λ (a : Answer). numberOf (a .decline)) (store-carried g d r form value listed can formed (asks d r on ∙ loads))
+        ∙ pick-both (λ (a : Answer). numberOf (a .decline) ≡ 0) (eqb r 0) refl refl
     go false loads =
         let busy = declines g d r form listed can formed ∙ ap (λ (t : Bool). pick t Decline.Accepted Decline.Running) (asks d r on ∙ loads) in
-        by-store g d r form value (λ a. a .decline ≡ Decline.Running) (λ yes′. true-not-false (sym yes′ ∙ ap acceptedOf busy)) (λ off. busy)
+        by-store g d r form value (λ a. numberOf (a .decline) ≡ 5) (λ yes′. true-not-false (sym yes′ ∙ ap acceptedOf busy)) (λ off. ap numberOf busy)
 
 pub loaded : (g : Geometry) (s : State) (r form value : ℕ) → loadsOf r ≡ true → running (s .device) ≡ true → length (s .device .nvmdata) ≡ 4
     → acceptedOf (answerOf g s (store r form value)) ≡ true

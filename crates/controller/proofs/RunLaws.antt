@@ -21,7 +21,7 @@ use Rattle.flash.proofs.AcceptedLaws.{step-ready}
 use Rattle.sequence.specs.declared.comparison.Reason.{Reason}
 use Rattle.sequence.specs.Sequence.{sequenceIndexOf}
 use Rattle.sequence.specs.Comparison.{reasonNumberOf, comparison, compareOf}
-use Rattle.sequence.proofs.ComparisonLaws.{reasons}
+use Rattle.sequence.proofs.ComparisonLaws.{comparisons}
 use Rattle.resets.specs.Reset.{tearOf, comparisonOf, resetReasonOf}
 use Rattle.resets.proofs.AcceptedLaws.{reset-ready}
 use Rattle.device.specs.State.{State, state}
@@ -145,7 +145,7 @@ compared g s sram kind mask =
 
 -- the comparison itself never says so
 was-compared : (first other : ℕ) → eqb (reasonNumberOf (compareOf first other .reason)) 4 ≡ false
-was-compared first other = reasons first other .compared
+was-compared first other = comparisons .meets first other .compared
 
 pub not-compared : (g : Geometry) (s : State) (sram : List ℕ) (kind : ℕ) (mask : List ℕ)
     → eqb (reasonNumberOf (resetReasonOf g s sram kind mask)) 4 ≡ not (acceptedOf (answerOf g s (reset sram kind mask)))
@@ -160,5 +160,5 @@ none-valid g s sram kind mask =
     by-reason g s sram kind mask (λ e. e .reason ≡ Reason.NoneValid → bfswap (e .after .state .device) ≡ false)
     (λ on none.
     reset-swap g (s .device) (reset-ready g (s .device) _ _ _ kind on .possible) kind _
-    ∙ reasons _ _ .none-bank (ap (λ (r : Reason). eqb (reasonNumberOf r) 3) none))
+    ∙ comparisons .meets _ _ .none-bank (ap (λ (r : Reason). eqb (reasonNumberOf r) 3) none))
     (λ off none. true-not-false (ap (λ (r : Reason). eqb (reasonNumberOf r) 4) none))

@@ -3,3 +3,5 @@ pub mod Controller
 pub mod Probes
 pub mod Loads
 pub mod Waits
+pub mod Reasons
+pub mod Examples

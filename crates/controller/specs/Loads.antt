@@ -7,7 +7,7 @@ use lib.Dec.{eqb, leb}
 use lib.ListN.{length}
 use Rattle.words.specs.Word.{pick}
 use Rattle.words.specs.declared.decline.Decline.{Decline}
-use Rattle.words.specs.Decline.{acceptedOf}
+use Rattle.words.specs.Decline.{numberOf, acceptedOf}
 use Rattle.geometry.specs.declared.banks.Geometry.{Geometry}
 use Rattle.geometry.specs.Banks.{oneOf, inRangeOf}
 use Rattle.device.specs.declared.record.Device.{Device}
@@ -91,7 +91,7 @@ pub record LoadEarly : Type 1 where
   -- "While WR is set, stores to NVMADDR, NVMDATA0 to 3 and NVMSRCADDR are accepted." "Decline 5 remains for all other stores"
   pub six : (r : ℕ) → loadsOf r ≡ oneOf (NVMADDR ∷ NVMDATA0 ∷ NVMDATA1 ∷ NVMDATA2 ∷ NVMDATA3 ∷ NVMSRCADDR ∷ []) r
   pub answers : (g : Geometry) (s : State) (r form value : ℕ) → inRangeOf g ≡ true → possibleOf g (s .device) ≡ true → running (s .device) ≡ true
-      → hasFormOf r form ≡ true → answerOf g s (store r form value) ≡ pick (loadsOf r) Decline.Accepted Decline.Running
+      → hasFormOf r form ≡ true → numberOf (answerOf g s (store r form value)) ≡ pick (loadsOf r) 0 5
   -- such a store changes its register alone, without an event
   pub loaded : (g : Geometry) (s : State) (r form value : ℕ) → loadsOf r ≡ true → running (s .device) ≡ true → length (s .device .nvmdata) ≡ 4
       → acceptedOf (answerOf g s (store r form value)) ≡ true

@@ -1,14 +1,13 @@
--- W-207, "A read that waits": which reads change nothing, and what the others do. Assumes nothing.
-use Prim.Native.Nat.{ℕ, _+_, _*_, _≤_, _<_}
+-- W-207, "A read that waits": which reads change nothing, what the others do, and that this fixes the call. Assumes nothing.
+use Prim.Native.Nat.{ℕ, _+_, _*_, _%_, _≤_, _<_}
 use mathlib.Core.Path.{_≡_}
 use mathlib.Core.Bool.{Bool, true, false}
 use mathlib.Core.Logic.{_⊎_}
 use mathlib.Core.List.{List, [], _∷_}
 use lib.ListN.{length, replicate}
-use Rattle.words.specs.Word.{pick, hasOf}
+use Rattle.words.specs.Word.{hasOf}
 use Rattle.words.specs.Quad.{wordAt}
-use Rattle.words.specs.declared.decline.Decline.{Decline}
-use Rattle.words.specs.Decline.{acceptedOf, firstOf}
+use Rattle.words.specs.Decline.{numberOf, acceptedOf}
 use Rattle.geometry.specs.declared.banks.Geometry.{Geometry}
 use Rattle.geometry.specs.Banks.{pageWordsOf, pageQuadsOf}
 use Rattle.geometry.specs.Lent.{mostSram}
@@ -16,12 +15,12 @@ use Rattle.map.specs.Windows.{locateOf, wordIndexOf, quadIndexOf, inSecondOf}
 use Rattle.device.specs.declared.record.Device.{Device}
 use Rattle.device.specs.Registers.{WRERR}
 use Rattle.device.specs.Record.{running, bfswap, pfswap, opOf}
-use Rattle.device.specs.State.{State, bankOf, after}
+use Rattle.device.specs.State.{State, bankOf}
 use Rattle.nvmop.specs.Operation.{lengthOf}
-use Rattle.common_declines.specs.CommonDecline.{commonDeclineOf}
+use Rattle.common_declines.specs.CommonDecline.{Usable, CommonDeclines}
 use Rattle.flash.specs.Effect.{stepAtOf}
 use Rattle.flash.specs.Step.{stepOf}
-use Rattle.reads.specs.Read.{secondAtOf, readableOf, remainingOf, readAnswerOf, waitsOf, wordReadOf, reading, flashReadOf}
+use Rattle.reads.specs.Read.{secondAtOf, remainingOf, readAnswerOf, waitsOf, Reading, flashReadOf}
 use Rattle.controller.specs.Controller.{runOf, AllAccepted, Outside, Keeps}
 use Rattle.controller.specs.Controller.Operation.{step}
 
@@ -59,49 +58,58 @@ pub record LeftBySteps (g : Geometry) (s : State) (sram : List ℕ) (t : State) 
   -- fewer than remain only after an abort, where "WRERR stays 1"
   pub all : (count ≡ remainingOf g (s .device)) ⊎ (hasOf (t .device .nvmcon .0) WRERR ≡ true)
 
--- "Such a read shall carry out the remaining steps, up to an abort if one comes, and then give the word, with the event."
-pub record Waited (g : Geometry) (s : State) (sram : List ℕ) (address : ℕ) : Type 0 where
-  pub accepted : flashReadOf g s sram address .after .decline ≡ Decline.Accepted
+-- "Such a read shall carry out the remaining steps, up to an abort if one comes, and then give the word, with the event.": of an answer r
+pub record Waited (g : Geometry) (s : State) (sram : List ℕ) (r : Reading) : Type 0 where
   -- no operation runs any more, and there is an event
-  pub ends : running (flashReadOf g s sram address .after .state .device) ≡ false
-  pub event : flashReadOf g s sram address .after .event ≡ true
-  -- the word is that of the banks as they then are
-  pub word : flashReadOf g s sram address .word ≡ wordReadOf g (flashReadOf g s sram address .after .state) address
+  pub ends : running (r .after .state .device) ≡ false
+  pub event : r .after .event ≡ true
   -- it leaves what single steps leave, and no word changes but those of the steps' quads
-  pub steps : LeftBySteps g s sram (flashReadOf g s sram address .after .state)
-  pub untouched : (second : Bool) (v : ℕ) → Untouched g s second v
-      → wordAt (bankOf (flashReadOf g s sram address .after .state) second) v ≡ wordAt (bankOf s second) v
+  pub steps : LeftBySteps g s sram (r .after .state)
+  pub untouched : (second : Bool) (v : ℕ) → Untouched g s second v → wordAt (bankOf (r .after .state) second) v ≡ wordAt (bankOf s second) v
   -- so a bank that the operation does not target is as before, and so is a page in which no step lies
-  pub other : (second : Bool) → (Targeted g (s .device) second → ⊥) → bankOf (flashReadOf g s sram address .after .state) second ≡ bankOf s second
+  pub other : (second : Bool) → (Targeted g (s .device) second → ⊥) → bankOf (r .after .state) second ≡ bankOf s second
   pub page : (second : Bool) (n i : ℕ) → OffPage g s second n → i < pageWordsOf g
-      → let v = n * pageWordsOf g + i in wordAt (bankOf (flashReadOf g s sram address .after .state) second) v ≡ wordAt (bankOf s second) v
+      → let v = n * pageWordsOf g + i in wordAt (bankOf (r .after .state) second) v ≡ wordAt (bankOf s second) v
+
+-- "A flash read from a bank that the running operation targets"
+pub record Busy (g : Geometry) (d : Device) (address : ℕ) : Type 0 where
+  pub runs : running d ≡ true
+  pub target : Targeted g d (secondAtOf d (locateOf g address))
+
+-- none of 1 to 3 applies to a call on these banks with this SRAM
+abbrev pub Readable : Geometry → State → List ℕ → Type 0
+Readable g s sram = Usable g (s .device) (length (s .one) ∷ length (s .two) ∷ []) (length sram)
+
+-- what 01 and W-207 ask of the answer to a flash read, and of what it leaves
+pub record Reads (g : Geometry) (s : State) (sram : List ℕ) (address : ℕ) (r : Reading) : Type 0 where
+  -- 1 to 3 come first, an SRAM that is too long among 2
+  pub declines : CommonDeclines g (s .device) (length (s .one) ∷ length (s .two) ∷ []) (length sram) (numberOf (r .after .decline))
+  -- "8. A flash read outside the four windows or not on a multiple of 4"
+  pub no-address : Readable g s sram → (locateOf g address .inside ≡ true → address % 4 ≡ 0 → ⊥) → numberOf (r .after .decline) ≡ 8
+  pub accepted : Readable g s sram → locateOf g address .inside ≡ true → address % 4 ≡ 0 → numberOf (r .after .decline) ≡ 0
+  -- declined it changes nothing; no event, and the word is 0 (ours)
+  pub declined : (numberOf (r .after .decline) ≡ 0 → ⊥) → (r .after .state ≡ s) × ((r .after .event ≡ false) × (r .word ≡ 0))
+  -- "A flash read gives the word at its address there": of the bank that stands at the place of the address, as the read leaves it
+  pub word : numberOf (r .after .decline) ≡ 0
+      → let t = r .after .state in
+      let l = locateOf g address in
+      r .word ≡ wordAt (bankOf t (inSecondOf l (bfswap (t .device)) (pfswap (t .device)))) (wordIndexOf g l)
+  -- "Reads that were answered before keep their answers and change nothing."
+  pub kept : numberOf (r .after .decline) ≡ 0 → (Busy g (s .device) address → ⊥) → (r .after .state ≡ s) × (r .after .event ≡ false)
+  -- the others wait
+  pub waited : numberOf (r .after .decline) ≡ 0 → Busy g (s .device) address → Waited g s sram r
 
 pub record Waits : Type 1 where
-  -- 01's declines 1, 2, 3 and 8, in their order, the SRAM's length among 2, and no other
-  pub answer : (g : Geometry) (s : State) (sram : List ℕ) (address : ℕ)
-      → flashReadOf g s sram address .after .decline
-      ≡ firstOf (commonDeclineOf g (s .device) (length (s .one) ∷ length (s .two) ∷ []) (length sram))
-      (pick (readableOf g address) Decline.Accepted Decline.Address)
-  -- "A flash read gives the word at its address there": the bank that stands at the place of the address, as the read leaves it
-  pub word : (g : Geometry) (s : State) (sram : List ℕ) (address : ℕ) → acceptedOf (readAnswerOf g s sram address) ≡ true
-      → let t = flashReadOf g s sram address .after .state in
-      let l = locateOf g address in
-      flashReadOf g s sram address .word ≡ wordAt (bankOf t (inSecondOf l (bfswap (t .device)) (pfswap (t .device)))) (wordIndexOf g l)
-  -- "Reads that were answered before keep their answers and change nothing.": where one of 01's declines 1, 2, 3 and 8 applies, or its
-  -- condition of 9 is false
-  pub kept : (g : Geometry) (s : State) (sram : List ℕ) (address : ℕ) → length sram ≤ mostSram → waitsOf g s sram address ≡ false
-      → let r = flashReadOf g s sram address in
-      let decline = firstOf (commonDeclineOf g (s .device) (length (s .one) ∷ length (s .two) ∷ []) 0)
-      (pick (readableOf g address) Decline.Accepted Decline.Address) in
-      (r .after .decline ≡ decline) × ((r .after .state ≡ s) × ((r .after .event ≡ false) × (r .word ≡ pick (acceptedOf decline) (wordReadOf g s address) 0)))
-  -- a declined read changes nothing, whatever the SRAM
-  pub declined : (g : Geometry) (s : State) (sram : List ℕ) (address : ℕ) → acceptedOf (readAnswerOf g s sram address) ≡ false
-      → flashReadOf g s sram address ≡ reading (after (readAnswerOf g s sram address) s false) 0
-  -- which reads wait: "A flash read from a bank that the running operation targets", where no decline applies, and no other
-  pub busy : (g : Geometry) (s : State) (sram : List ℕ) (address : ℕ) → acceptedOf (readAnswerOf g s sram address) ≡ true
-      → running (s .device) ≡ true → Targeted g (s .device) (secondAtOf (s .device) (locateOf g address)) → waitsOf g s sram address ≡ true
-  pub target : (g : Geometry) (s : State) (sram : List ℕ) (address : ℕ) → waitsOf g s sram address ≡ true
-      → (running (s .device) ≡ true) × Targeted g (s .device) (secondAtOf (s .device) (locateOf g address))
-  pub waited : (g : Geometry) (s : State) (sram : List ℕ) (address : ℕ) → waitsOf g s sram address ≡ true → Waited g s sram address
+  -- every flash read is answered so, and no other answer is as asked
+  pub meets : (g : Geometry) (s : State) (sram : List ℕ) (address : ℕ) → Reads g s sram address (flashReadOf g s sram address)
+  pub fixes : (g : Geometry) (s : State) (sram : List ℕ) (address : ℕ) (r : Reading) → Reads g s sram address r → r ≡ flashReadOf g s sram address
+  -- an SRAM of up to 16,384 words, which 01's read did not have, changes no answer's number
+  pub answers-kept : (g : Geometry) (s : State) (sram : List ℕ) (address : ℕ) → length sram ≤ mostSram
+      → numberOf (flashReadOf g s sram address .after .decline) ≡ numberOf (flashReadOf g s [] address .after .decline)
+  -- what the definitions call a read that waits is one that is not declined, of a bank that the running operation targets
+  pub waits : (g : Geometry) (s : State) (sram : List ℕ) (address : ℕ) → acceptedOf (readAnswerOf g s sram address) ≡ true
+      → Busy g (s .device) address → waitsOf g s sram address ≡ true
+  pub waits-only : (g : Geometry) (s : State) (sram : List ℕ) (address : ℕ) → waitsOf g s sram address ≡ true
+      → (acceptedOf (readAnswerOf g s sram address) ≡ true) × Busy g (s .device) address
   -- a read changes no page that is protected at that time, nor the length of a bank
   pub keeps : (g : Geometry) (s : State) (sram : List ℕ) (address : ℕ) → Keeps g s (flashReadOf g s sram address .after .state)
