@@ -99,7 +99,7 @@ enum yohrundel_decline {
     YOHRUNDEL_DECLINE_RESET_KIND = 7,
     /* A flash read outside the four windows or not on a multiple of 4; a page request with a page number of N or more. */
     YOHRUNDEL_DECLINE_ADDRESS = 8,
-    /* No call gives it any more: it was a flash read from a bank that the running operation targets, and such a read now waits. */
+    /* It was a flash read from a bank that the running operation targets. Such a read now waits, and no call gives the number. */
     YOHRUNDEL_DECLINE_BUSY = 9,
     /*
      * Update start: the lower-alias bank's sequence is invalid, a reset would choose the other bank, PFSWAP differs from BFSWAP, or the
@@ -151,7 +151,7 @@ static inline const char *yohrundel_decline_text(uint32_t decline)
     case YOHRUNDEL_DECLINE_IDLE: return "no operation is running";
     case YOHRUNDEL_DECLINE_RESET_KIND: return "there is no such kind of reset";
     case YOHRUNDEL_DECLINE_ADDRESS: return "there is no such address or page";
-    case YOHRUNDEL_DECLINE_BUSY: return "the running operation targets this bank";
+    case YOHRUNDEL_DECLINE_BUSY: return "no longer given";
     case YOHRUNDEL_DECLINE_SEQUENCE: return "the sequence words or the mapping do not allow an update";
     case YOHRUNDEL_DECLINE_LAST_SEQUENCE: return "the last sequence number is in use";
     case YOHRUNDEL_DECLINE_PROTECTION: return "the protection does not allow an update";

@@ -24,7 +24,7 @@ pub enum Decline {
     ResetKind = 7,
     /// A flash read outside the four windows or not on a multiple of 4; a page number of N or more.
     Address = 8,
-    /// No call is declined by it any more: it was a flash read from a bank that the running operation targets, and such a read now waits.
+    /// It was a flash read from a bank that the running operation targets. Such a read now waits, and no call gives the number.
     Busy = 9,
     /// The sequence words or the mapping do not allow an update.
     Sequence = 10,
@@ -98,7 +98,7 @@ impl Decline {
             Decline::Idle => "no operation is running",
             Decline::ResetKind => "there is no such kind of reset",
             Decline::Address => "there is no such address or page",
-            Decline::Busy => "the running operation targets this bank",
+            Decline::Busy => "no longer given",
             Decline::Sequence => "the sequence words or the mapping do not allow an update",
             Decline::LastSequence => "the last sequence number is in use",
             Decline::Protection => "the protection does not allow an update",

@@ -1,12 +1,11 @@
 -- A wait fits where all minutes lie in one of the windows, and only there, since a window that is in range holds its minutes and no others.
 -- Assumes nothing.
-use mathlib.Core.Path.{_≡_, refl, subst}
+use mathlib.Core.Path.{_≡_, subst}
 use mathlib.Core.Bool.{true}
 use mathlib.Core.List.{List}
-use Prim.Native.Nat.{ℕ, _+_, _*_, _%_, _≤_, _<_}
+use Prim.Native.Nat.{ℕ, _+_, _≤_, _<_}
 use native.Mathlib.Nat.{mod-lt}
 use native.Mathlib.Omega.{arith}
-use lib.ListN.{length}
 use borrow.Author.Tests.{ltb-true}
 use Rattle.words.proofs.PickLaws.{all-below, all-hold}
 use Rattle.words.proofs.FirstLaws.{any-some, some-any}

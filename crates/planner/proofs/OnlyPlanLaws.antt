@@ -11,7 +11,6 @@ use Rattle.words.proofs.Numbers.{numbers}
 use Rattle.planner.specs.declared.plan.Planned.{Planned}
 use Rattle.planner.specs.Planner.{planned, planOf}
 use Rattle.planner.specs.PlanLaws.{Plans, PlanLaws}
-use Rattle.planner.proofs.WindowLaws.{every-minute, first-minute, after-last, its-minutes, no-others}
 use Rattle.planner.proofs.PlanLaws.{plans}
 
 module _ (minute duration : ℕ) (lent : List ℕ) (p q : Planned) (one : Plans minute duration lent p) (other : Plans minute duration lent q) where
@@ -68,11 +67,6 @@ module _ (minute duration : ℕ) (lent : List ℕ) (p q : Planned) (one : Plans 
 pub plan-laws : PlanLaws
 plan-laws =
     record {
-      every-minute = every-minute;
-      first-minute = first-minute;
-      after-last = after-last;
-      its-minutes = its-minutes;
-      no-others = no-others;
       meets = plans;
       fixes =
           λ minute duration lent answer as-asked.

@@ -19,14 +19,9 @@ abbrev pub offset : ℕ → ℕ → ℕ
 offset start minute = (minute + (week - start)) % week
 
 -- "One of 10,080 holds every minute"
-pub every-minute : (start minute : ℕ) → heldOf (window start week) minute ≡ true
+every-minute : (start minute : ℕ) → heldOf (window start week) minute ≡ true
 unfolding heldOf
 every-minute start minute = lt-ltb _ _ (mod-lt (minute + (week - start)) (omega arith))
-
--- "a shorter one holds its first minute"
-pub first-minute : (start length : ℕ) → start < week → 1 ≤ length → heldOf (window start length) start ≡ true
-unfolding heldOf
-first-minute start length starts some = let e : offset start start ≡ 0 = omega arith in rw e (lt-ltb 0 length some)
 
 -- k minutes later, before the start comes again
 later : (start minute k : ℕ) → offset start minute + k < week → offset start ((minute + k) % week) ≡ offset start minute + k
@@ -41,19 +36,10 @@ not-held : (start length minute k : ℕ) → offset start minute + k < week → 
 unfolding heldOf
 not-held start length minute k round l = rw (later start minute k round) (le-ltb _ _ l)
 
--- "and not the one after its last"
-pub after-last : (start length : ℕ) → start < week → length < week → heldOf (window start length) ((start + length) % week) ≡ false
-after-last start length starts short = not-held start length start length (omega arith) (omega arith)
-
 -- the minutes between
 pub its-minutes : (start length k : ℕ) → start < week → length ≤ week → k < length → heldOf (window start length) ((start + k) % week) ≡ true
 unfolding heldOf
 its-minutes start length k starts most l = let e : offset start ((start + k) % week) ≡ k = omega arith in rw e (lt-ltb k length l)
-
--- and none of those after its last
-pub no-others : (start length k : ℕ) → start < week → length ≤ k → k < week → heldOf (window start length) ((start + k) % week) ≡ false
-unfolding heldOf
-no-others start length k starts l round = let e : offset start ((start + k) % week) ≡ k = omega arith in rw e (le-ltb k length l)
 
 module _ (start length minute duration : ℕ) (short : length < week) (some : 1 ≤ duration) (wait : ℕ) where
   fits-within : offset start (minute + wait) + duration ≤ length → fitsInOf minute duration (window start length) wait ≡ true

@@ -1,13 +1,11 @@
--- What the definitions of a plan say of each window and of each answer. Assumes nothing.
+-- W-201, "Garage hours": what is asked of the answer to a plan, and that this fixes it. Assumes nothing.
 use Prim.Native.Nat.{ℕ, _+_, _*_, _%_, _≤_, _<_}
 use mathlib.Core.Path.{_≡_}
-use mathlib.Core.Bool.{true, false}
 use mathlib.Core.List.{List}
 use mathlib.Core.Logic.{_⊎_}
 use lib.ListN.{length, getD}
 use Rattle.words.specs.Decline.{numberOf}
 use Rattle.planner.specs.declared.plan.Planned.{Planned}
-use Rattle.planner.specs.Windows.{week, window, heldOf}
 use Rattle.planner.specs.Planner.{planOf}
 
 -- "any of these numbers", all of them in range
@@ -17,7 +15,7 @@ pub record InRange (minute duration : ℕ) (lent : List ℕ) : Type 0 where
   -- "a duration of 1 to 1,440 minutes"
   pub some : 1 ≤ duration
   pub most : duration ≤ 1440
-  -- "There are 1 to 14 windows.": two numbers for each
+  -- "There are 1 to 14 windows.": two numbers for each, and an odd count of numbers is out of range (ours)
   pub count : ℕ
   pub numbers : length lent ≡ 2 * count
   pub at-least : 1 ≤ count
@@ -26,7 +24,8 @@ pub record InRange (minute duration : ℕ) (lent : List ℕ) : Type 0 where
   pub starts : (i : ℕ) → i < count → getD lent (2 * i) 0 < 10080
   pub lengths : (i : ℕ) → i < count → (1 ≤ getD lent (2 * i + 1) 0) × (getD lent (2 * i + 1) 0 ≤ 10080)
 
--- a window "holds its first minute and not the one after its last", and "may run past the end of the week"
+-- "One of 10,080 holds every minute; a shorter one holds its first minute and not the one after its last": a minute is so many after the
+-- start, fewer than the length, and the window "may run past the end of the week"
 pub record Holds (start length minute : ℕ) : Type 0 where
   pub after : ℕ
   pub within : after < length
@@ -58,15 +57,6 @@ pub record Plans (minute duration : ℕ) (lent : List ℕ) (answer : Planned) : 
   pub beside : (numberOf (answer .decline) ≡ 0 → ⊥) → answer .wait ≡ 0
 
 pub record PlanLaws : Type 0 where
-  -- "One of 10,080 holds every minute"
-  pub every-minute : (start minute : ℕ) → heldOf (window start week) minute ≡ true
-  -- "a shorter one holds its first minute"
-  pub first-minute : (start length : ℕ) → start < week → 1 ≤ length → heldOf (window start length) start ≡ true
-  -- "and not the one after its last"
-  pub after-last : (start length : ℕ) → start < week → length < week → heldOf (window start length) ((start + length) % week) ≡ false
-  -- the minutes between, though it "may run past the end of the week", and none of those after its last
-  pub its-minutes : (start length k : ℕ) → start < week → length ≤ week → k < length → heldOf (window start length) ((start + k) % week) ≡ true
-  pub no-others : (start length k : ℕ) → start < week → length ≤ k → k < week → heldOf (window start length) ((start + k) % week) ≡ false
   -- every plan is as W-201 asks, and no other answer is
   pub meets : (minute duration : ℕ) (lent : List ℕ) → Plans minute duration lent (planOf minute duration lent)
   pub fixes : (minute duration : ℕ) (lent : List ℕ) (answer : Planned) → Plans minute duration lent answer → answer ≡ planOf minute duration lent

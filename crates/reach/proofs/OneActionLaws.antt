@@ -4,14 +4,14 @@
 use mathlib.Core.Path.{_≡_, refl, sym, ap, _∙_}
 use mathlib.Core.List.{List}
 use Prim.Native.Nat.{ℕ, zero, suc, _+_, _-_, _*_, _/_, _%_, _≤_, _<_}
-use native.Mathlib.Nat.{add-zero}
 use native.Mathlib.Decide.{ℕ-discrete, decLt}
 use native.Mathlib.Omega.{arith}
 use lib.ListN.{length, getD, List·getD-eq-default}
 use lib.Seq.{ext-getD}
 use borrow.Author.Tests.{lt-ltb, eq-eqb, ne-eqb}
-use Rattle.words.specs.Quad.{wordAt, quadAt}
+use Rattle.words.specs.Quad.{wordAt}
 use Rattle.words.proofs.CaseLaws.{below-four}
+use Rattle.words.proofs.QuadLaws.{quad-word}
 use Rattle.geometry.specs.declared.banks.Geometry.{Geometry}
 use Rattle.geometry.specs.Banks.{bankWordsOf}
 use Rattle.sequence.specs.Sequence.{sequenceQuadOf}
@@ -46,7 +46,7 @@ same-but-words g j a b (suc (suc (suc (suc (suc k))))) same = refl
 image-word : (g : Geometry) (image : List ℕ) (w j n : ℕ) → (j ≡ sequenceQuadOf g → ⊥) → n < 4 → wordAt (newQuadOf g image w j) n ≡ wordAt image (4 * j + n)
 unfolding newQuadOf
 image-word g image w j n ne l =
-    rw (ne-eqb j (sequenceQuadOf g) ne) (below-four (λ n. wordAt (quadAt image j) n ≡ wordAt image (4 * j + n)) (rw add-zero) refl refl refl n l)
+    rw (ne-eqb j (sequenceQuadOf g) ne) (quad-word image j n l)
 
 module _ (g : Geometry) (image other : List ℕ) (i w : ℕ) (one : OneWord image other i) where
   -- a word of a quad is the same, unless it is the one that differs, outside the sequence quad

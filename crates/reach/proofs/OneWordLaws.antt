@@ -9,8 +9,8 @@ use lib.ListN.{length, List·getD-eq-default}
 use Rattle.words.specs.Quad.{wordAt}
 use Rattle.reach.specs.declared.Difference.{Difference}
 use Rattle.reach.specs.Reach.{differenceOf}
-use Rattle.reach.specs.Differing.{OneWord, differingOf, Meaning}
-use Rattle.reach.proofs.DifferenceLaws.{word-counted, word-passed, meaning}
+use Rattle.reach.specs.Differing.{OneWord, Meaning}
+use Rattle.reach.proofs.DifferenceLaws.{differingOf, word-counted, word-passed, meaning}
 
 abbrev found : ℕ → ℕ → ℕ → Difference
 found count lowest highest = record { count = count; lowest = lowest; highest = highest }
@@ -21,7 +21,7 @@ module _ (image other : List ℕ) where
   past-same n long too i l = List·getD-eq-default image 0 (omega arith) ∙ sym (List·getD-eq-default other 0 (omega arith))
 
   -- before the first word that differs there is nothing
-  pub none-before : (n : ℕ) → ((i : ℕ) → i < n → wordAt image i ≡ wordAt other i) → differenceOf image other n ≡ found 0 0 0
+  none-before : (n : ℕ) → ((i : ℕ) → i < n → wordAt image i ≡ wordAt other i) → differenceOf image other n ≡ found 0 0 0
   none-before zero same = refl
   none-before (suc n) same = sym (word-passed image other n (same n (omega arith))) ∙ none-before n (λ i l. same i (omega arith))
 
@@ -49,7 +49,7 @@ module _ (image other : List ℕ) where
       → OneWord image other (differenceOf image other n .lowest)
   only-one n long too one =
       record {
-        differs = rw (means .lowest) (means .differ 0 (omega (arith, single)) .1);
+        differs = rw (means .lowest) (means .differ .only 0 (omega (arith, single)) .1);
         same = λ j ne. go j ne (decLt j n) (ℕ-discrete (wordAt image j) (wordAt other j));
       }
     where
@@ -67,6 +67,6 @@ module _ (image other : List ℕ) where
       go j ne l (yes e) = e
       go j ne (no l) (no e) = past-same n long too j (omega arith)
       go j ne (yes l) (no e) =
-          let listed = means .all j l e in
-          let first : listed .at ≡ 0 = omega (arith, listed .below, single) in
+          let listed = means .differ .all j l e in
+          let first : listed .at ≡ 0 = omega (arith, listed .inside, single) in
           absurd (ne (sym (listed .is) ∙ rw first (sym (means .lowest))))

@@ -57,6 +57,7 @@ answerOf g d =
 abbrev pub reachDeclineOf : Geometry → List ℕ → List ℕ → Decline
 reachDeclineOf g image other = lentDeclineOf g (length image ∷ length other ∷ []) 0
 
+-- the call; where it is declined the answer is a case of its own (ours)
 unfoldable pub reachOf : Geometry → List ℕ → List ℕ → Reached
 reachOf g image other =
     let decline = reachDeclineOf g image other in

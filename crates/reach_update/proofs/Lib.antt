@@ -6,3 +6,4 @@ pub mod LiveLaws
 pub mod MoveLaws
 pub mod CutLaws
 pub mod SameRuns
+pub mod WordApart

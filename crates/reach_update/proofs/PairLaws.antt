@@ -38,7 +38,8 @@ use Rattle.update.proofs.PhaseLaws.{actionAt}
 use Rattle.update.proofs.StartLaws.{startFixed}
 use Rattle.update.proofs.MoveLaws.{stepping-of}
 use Rattle.reach_update.specs.Near.{SameBut, NearDevice, NearState}
-use Rattle.reach_update.proofs.SameButLaws.{quad-word, put-near}
+use Rattle.words.proofs.QuadLaws.{quad-word}
+use Rattle.reach_update.proofs.SameButLaws.{put-near}
 use Rattle.reach_update.proofs.DeviceLaws.{pick-two, by-near, running-near, advance-near}
 
 -- ---- actions that are the same but for the value of a store to NVMDATA x

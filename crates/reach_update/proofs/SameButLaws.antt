@@ -9,8 +9,7 @@ use lib.ListN.{length, set, length-set}
 use lib.Seq.{getD-set-same, getD-set-other, set-out, ext-getD}
 use Rattle.words.specs.Word.{mergeOf}
 use Rattle.words.specs.Quad.{wordAt, quadAt, putQuad, mergeQuadOf}
-use Rattle.words.proofs.CaseLaws.{below-four}
-use Rattle.words.proofs.QuadLaws.{merge-quad-word}
+use Rattle.words.proofs.QuadLaws.{merge-quad-word, quad-word}
 use Rattle.reach_update.specs.Near.{SameBut}
 
 pub same-self : (i : ℕ) (l : List ℕ) → SameBut i l l
@@ -55,10 +54,6 @@ put-near i l m h j q r e =
     (e 1 (omega arith)))
     (4 * j + 2) (wordAt q 2) (wordAt r 2) (e 2 (omega arith)))
     (4 * j + 3) (wordAt q 3) (wordAt r 3) (e 3 (omega arith))
-
--- word y of quad j
-pub quad-word : (l : List ℕ) (j y : ℕ) → y < 4 → wordAt (quadAt l j) y ≡ wordAt l (4 * j + y)
-quad-word l j y few = below-four (λ y. wordAt (quadAt l j) y ≡ wordAt l (4 * j + y)) (ap (wordAt l) (omega arith)) refl refl refl y few
 
 -- the same of quads merged into what is there
 pub merge-near : (i : ℕ) (l m : List ℕ) → SameBut i l m → (j : ℕ) (q r mask : List ℕ)

@@ -1,5 +1,5 @@
 -- Two updates whose images differ in one word: outside the sequence quad their lists of actions differ in its store, from which all follows;
--- inside it no action looks at the word.
+-- inside it no action looks at the word. Lists at one place are compared by the same turns, since of one update the place decides the state.
 -- Assumes nothing.
 use mathlib.Core.Path.{_≡_, refl, sym, ap, _∙_}
 use mathlib.Core.Bool.{not}
@@ -27,9 +27,10 @@ use Rattle.update.specs.declared.actions.Action.the-variants.{Store, Step}
 use Rattle.update.specs.Actions.{newQuadOf, programmedQuadOf, programmingFrom, quadActions, quadActionOf, actionAtOf, actionsOf, totalOf}
 use Rattle.update.specs.Start.{lowerWordOf, startOf}
 use Rattle.update.specs.Turn.{turnDeclineOf, Turning, turnOf}
-use Rattle.update.specs.PowerFail.{Position, at, Cut, old, Words, Update, placeAfter}
-use Rattle.update.specs.Moves.{Move, movedOf, movesOf, turnsAmong, End, endStateOf, afterMoves}
+use Rattle.update.specs.PowerFail.{Position, at, turnsOf, placeAfter, Cut, old, Words, Update}
+use Rattle.update.specs.Moves.{Move, movedOf, movesOf, turnsAmong, turnMoves, End, endStateOf, afterMoves}
 use Rattle.update.specs.Moves.Move.{turn, read}
+use Rattle.update.specs.Moves.End.{whole}
 use Rattle.update.proofs.PlaceLaws.{quad-action}
 use Rattle.update.proofs.ActionLaws.{action-listed}
 use Rattle.update.proofs.Blocks.{oldWord}
@@ -37,11 +38,12 @@ use Rattle.update.proofs.PhaseLaws.{actionAt}
 use Rattle.update.proofs.StartLaws.{starts}
 use Rattle.update.proofs.PowerFail.{power-fail}
 use Rattle.update.proofs.Moves.{moves-fail}
+use Rattle.update.proofs.RunLaws.{one-position}
 use Rattle.reach.specs.Reach.{programmedAtOf, dataPlaceOf}
 use Rattle.reach.specs.Differing.{OneWord, OneAction}
 use Rattle.reach.proofs.Differing.{differing}
-use Rattle.reach_update.specs.Near.{NearDevice}
-use Rattle.reach_update.specs.SameRuns.{SameCut, Outside, OneWordReaches}
+use Rattle.reach_update.specs.Near.{NearDevice, NearState}
+use Rattle.reach_update.specs.SameRuns.{SameCut, AtOnePlace, Outside, OneWordReaches}
 use Rattle.reach_update.proofs.DeviceLaws.{pick-two, by-near}
 use Rattle.reach_update.proofs.TurnLaws.{first, second}
 use Rattle.reach_update.proofs.LiveLaws.{Differs}
@@ -63,6 +65,34 @@ module _ (g : Geometry) (image other : List ℕ) (long : length image ≡ length
         new-words = words;
         quad = update .quad;
       }
+
+-- ---- a list for each image in which no read waits, both at one place
+abbrev turnsIn : List Move → List Move
+turnsIn B = turnMoves (turnsAmong B)
+
+module _ (g : Geometry) (s : State) (image other : List ℕ) (also : Update g s other)
+    (places : (B : List Move) → movesOf g image (at s 0) B .place ≡ movesOf g other (at s 0) B .place) where
+  -- both leave what the turns of the first list leave, since of one update the place decides the state
+  by-turns : (P : Position → Position → Type 0) (B C : List Move) → AtOnePlace g s image other B C
+      → P (movesOf g image (at s 0) (turnsIn B)) (movesOf g other (at s 0) (turnsIn B)) → P (movesOf g image (at s 0) B) (movesOf g other (at s 0) C)
+  by-turns P B C h holds = rw (first, second ∙ one-position g s other also (turnsAmong C) (turnsAmong B) place ∙ sym alone) holds
+    where
+      first : movesOf g image (at s 0) B ≡ movesOf g image (at s 0) (turnsIn B)
+      first = moves-fail g image .unwaited (at s 0) B (h .first) ∙ sym (moves-fail g image .turns-alone (at s 0) (turnsAmong B))
+
+      second : movesOf g other (at s 0) C ≡ turnsOf g other (at s 0) (turnsAmong C)
+      second = moves-fail g other .unwaited (at s 0) C (h .second)
+
+      alone : movesOf g other (at s 0) (turnsIn B) ≡ turnsOf g other (at s 0) (turnsAmong B)
+      alone = moves-fail g other .turns-alone (at s 0) (turnsAmong B)
+
+      place : placeAfter g s other (turnsAmong C) ≡ placeAfter g s other (turnsAmong B)
+      place =
+          ap (λ (p : Position). p .place) (sym second)
+          ∙ sym (h .place)
+          ∙ ap (λ (p : Position). p .place) first
+          ∙ places (turnsIn B)
+          ∙ ap (λ (p : Position). p .place) alone
 
 -- ---- outside the sequence quad
 -- the store of word x of a quad
@@ -138,17 +168,26 @@ module _ (g : Geometry) (image other : List ℕ) (i : ℕ) (long : length image 
           go (no l) (yes m) = inr m
           go (no l) (no m) = absurd (away (omega arith))
 
+  places : (B : List Move) → movesOf g image (at s 0) B .place ≡ movesOf g other (at s 0) B .place
+  places B = moves-together g s image other i update also (one .same) k differs B .0
+
   outside : Outside g s image other i
   outside =
       record {
-        place = λ B. moves-together g s image other i update also (one .same) k differs B .0;
+        every-place =
+            λ B C h. by-turns g s image other also places (λ (p q : Position). NearState (old s) i (p .state) (q .state)) B C h
+            (together g s image other i update also (one .same) k differs (after (turnsIn B) whole) .0 .near);
+        every-cut =
+            λ B C h c. by-turns g s image other also places (λ (p q : Position). SameCut g s i (p .state) (q .state) c) B C h
+            (cut-same _ _ (after (turnsIn B) whole) c);
+        place = places;
         near = λ B end. together g s image other i update also (one .same) k differs (after B end) .0 .near;
         before = λ B end l. let h = after B end in together g s image other i update also (one .same) k differs h .1 .early (h .early l);
         later = λ B end l. let h = after B end in together g s image other i update also (one .same) k differs h .1 .late (omega (arith, h .later));
         total =
             λ B done. (
               total-word image update B done,
-              total-word other also B (sym (moves-together g s image other i update also (one .same) k differs B .0) ∙ done),
+              total-word other also B (sym (places B) ∙ done),
             );
         reads =
             λ B end sram address. (
@@ -216,6 +255,10 @@ one-word-reaches =
             update = same-update g image other long words;
             outside = outside g image other i long words one;
             inside-turn = same-turn g image other i long one;
+            inside-place =
+                λ left-out s update B C h. let moves = same-moves g image other i long one left-out (at s 0) in
+                by-turns g s image other (same-update g image other long words s update) (λ B. ap (λ (p : Position). p .place) (moves B))
+                (λ (p q : Position). p ≡ q) B C h (moves (turnsIn B));
             inside =
                 λ left-out s B end. let moves = same-moves g image other i long one left-out (at s 0) B in
                 (moves, ap (λ (p : Position). endStateOf g (p .state) end) moves);

@@ -1,7 +1,7 @@
 -- W-214: two updates from the same accepted start, whose images differ in one word, with the same moves, cuts and tears. Assumes nothing.
 use Prim.Native.Nat.{ℕ, _+_, _/_, _≤_, _<_}
 use mathlib.Core.Path.{_≡_}
-use mathlib.Core.Bool.{true, not}
+use mathlib.Core.Bool.{true, false, not}
 use mathlib.Core.List.{List}
 use lib.ListN.{length}
 use Rattle.words.specs.Quad.{wordAt}
@@ -17,7 +17,7 @@ use Rattle.update.specs.Actions.{totalOf, quadActions}
 use Rattle.update.specs.Start.{startOf}
 use Rattle.update.specs.Turn.{turnOf}
 use Rattle.update.specs.PowerFail.{at, Cut, resetBy, restarted, old, Words, Update}
-use Rattle.update.specs.Moves.{Move, End, movesOf, afterMoves}
+use Rattle.update.specs.Moves.{Move, End, movesOf, waitsIn, afterMoves}
 use Rattle.reach.specs.Reach.{dataPlaceOf}
 use Rattle.reach.specs.Differing.{OneWord}
 use Rattle.reach_update.specs.Near.{NearState}
@@ -37,9 +37,21 @@ pub record SameCut (g : Geometry) (s : State) (i : ℕ) (a b : State) (c : Cut) 
   pub near-started : NearState (old s) i (restarted g a c) (restarted g b c)
   pub same-runs : (bfswap (restarted g a c .device) ≡ bfswap (restarted g b c .device)) × (pfswap (restarted g a c .device) ≡ pfswap (restarted g b c .device))
 
+-- a list of moves for each image, in which no read waits, and both are at one place
+pub record AtOnePlace (g : Geometry) (s : State) (image other : List ℕ) (B C : List Move) : Type 0 where
+  pub first : waitsIn g image (at s 0) B ≡ false
+  pub second : waitsIn g other (at s 0) C ≡ false
+  pub place : movesOf g image (at s 0) B .place ≡ movesOf g other (at s 0) C .place
+
 -- "Outside the sequence quad": the differing action is at the place of the word's store
 pub record Outside (g : Geometry) (s : State) (image other : List ℕ) (i : ℕ) : Type 0 where
-  -- "At every place of the two updates, begun from the same accepted start": after the same moves both are at the same place
+  -- "At every place of the two updates, begun from the same accepted start": two lists in which no read waits, each with the turns and SRAMs
+  -- that it had, which are at one place; "the banks differ in at most that one word", "and after any equal cut and tear"
+  pub every-place : (B C : List Move) → AtOnePlace g s image other B C
+      → NearState (old s) i (movesOf g image (at s 0) B .state) (movesOf g other (at s 0) C .state)
+  pub every-cut : (B C : List Move) → AtOnePlace g s image other B C → (c : Cut)
+      → SameCut g s i (movesOf g image (at s 0) B .state) (movesOf g other (at s 0) C .state) c
+  -- of lists in which reads wait, with the same moves for both: these are at the same place
   pub place : (B : List Move) → movesOf g image (at s 0) B .place ≡ movesOf g other (at s 0) B .place
   -- "the banks differ in at most that one word", of the new bank, and the devices in one register of NVMDATA and what was launched of it
   pub near : (B : List Move) (end : End) → NearState (old s) i (afterMoves g s image B end) (afterMoves g s other B end)
@@ -65,6 +77,8 @@ pub record SameRuns (g : Geometry) (image other : List ℕ) (i : ℕ) : Type 0 w
   pub outside : (i / 4 ≡ sequenceQuadOf g → ⊥) → (s : State) → Update g s image → Outside g s image other i
   -- "Inside the sequence quad nothing differs.": every turn, in every state, and so after the same moves place, device and banks
   pub inside-turn : i / 4 ≡ sequenceQuadOf g → (s : State) (sram : List ℕ) (place : ℕ) → turnOf g s image sram place ≡ turnOf g s other sram place
+  pub inside-place : i / 4 ≡ sequenceQuadOf g → (s : State) → Update g s image → (B C : List Move) → AtOnePlace g s image other B C
+      → movesOf g image (at s 0) B ≡ movesOf g other (at s 0) C
   pub inside : i / 4 ≡ sequenceQuadOf g → (s : State) (B : List Move) (end : End)
       → (movesOf g image (at s 0) B ≡ movesOf g other (at s 0) B) × (afterMoves g s image B end ≡ afterMoves g s other B end)
 

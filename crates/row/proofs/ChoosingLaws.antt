@@ -70,7 +70,7 @@ module _ (g : Geometry) (r : RowState) (c : Call) (judged : JudgedCall g r c) wh
           held = test-held g r c j (tests .0) (tests .1);
         }
 
-    joined : fromQueueOf known ≡ false → Joined g r c i
+    joined : fromQueueOf known ≡ false → Joined g r c (afterOf g r c) i
     joined h =
         let rising = records-rising (beginsOf known) n in
         record {
@@ -99,7 +99,7 @@ module _ (g : Geometry) (r : RowState) (c : Call) (judged : JudgedCall g r c) wh
       let s = serves (waiterAt r p) is (judged .entry-below p (f .inside)) in
       (s .0, (s .1, queue-after g r c (call-accepted g r c judged) ∙ ap queueOf (q .left ∙ ap (leftOf (waitingOf (r .queue))) (sym e))))
 
-  list-case : (i : ℕ) → FirstMet g r c i → (answerOf g r c .idle ≡ false) × ((answerOf g r c .served ≡ metAt r i) × Joined g r c i)
+  list-case : (i : ℕ) → FirstMet g r c i → (answerOf g r c .idle ≡ false) × ((answerOf g r c .served ≡ metAt r i) × Joined g r c (afterOf g r c) i)
   list-case i f =
       let h = none-queue g r c (f .nobody) in
       let e : i ≡ foundOf known = met-found g r c i f in
@@ -109,7 +109,7 @@ module _ (g : Geometry) (r : RowState) (c : Call) (judged : JudgedCall g r c) wh
       (s .0, (s .1, joined i e h))
 
   idle-case : Nobody g r c
-      → (answerOf g r c .idle ≡ true) × ((answerOf g r c .served ≡ 0) × ((answerOf g r c .event ≡ false) × Joined g r c (length (r .signs))))
+      → (answerOf g r c .idle ≡ true) × ((answerOf g r c .served ≡ 0) × ((answerOf g r c .event ≡ false) × Joined g r c (afterOf g r c) (length (r .signs))))
   idle-case nobody =
       let h = none-queue g r c (nobody .nobody) in
       let e : n ≡ foundOf known = nobody-found g r c (judged .last-below) nobody in
@@ -148,7 +148,7 @@ module _ (g : Geometry) (r : RowState) (c : Call) where
       (λ i. true-not-false (sym (i .idle) ∙ busy))
       (λ x s. s .event ∙ ap (λ (x : ℕ). turnAt g r c x .event) (sym (s .served)))
 
-  pub chosen : Choosing g r c
+  pub chosen : Choosing g r c (answerOf g r c) (afterOf g r c)
   chosen =
       record {
         one-of = λ h. one-of g r c (accepted-only g r c h);

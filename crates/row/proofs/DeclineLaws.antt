@@ -32,7 +32,7 @@ module _ (g : Geometry) (r : RowState) (c : Call) where
   pub accepted-only : answerOf g r c .decline ≡ 0 → JudgedCall g r c
   accepted-only e = by-cases g r c (λ d. not-declined g r c d e) (λ i. call-judged (i .accepted)) (λ x s. call-judged (s .accepted))
 
-  pub row-declined : RowDeclines g r c
+  pub row-declined : RowDeclines g r c (answerOf g r c)
   row-declined =
       record {
         geometry = λ out. decline-is ∙ ap numberOf (geometry-declines g (c .k) (r .signs) _ (r .queue) (r .last) _ _ _ out);

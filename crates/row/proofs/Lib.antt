@@ -9,6 +9,7 @@ pub mod SignLaws
 pub mod ServedLaws
 pub mod BearLaws
 pub mod FairCalls
+pub mod FixedLaws
 pub mod Supply
 pub mod KeptLaws
 pub mod PlacedLaws
@@ -23,3 +24,4 @@ pub mod UnderwayLaws
 pub mod Progress
 pub mod Rows
 pub mod TwoSigns
+pub mod Waiting

@@ -35,8 +35,8 @@ moves-append g image p (m ∷ a) b = moves-append g image _ a b
 -- ---- one move of the row
 
 module _ (g : Geometry) (image : List ℕ) where
-  one-call : (r : RowState) (c : Call) → OneCall g r c
-  one-call = supply .one-call g
+  one-call : (r : RowState) (c : Call) → OneCall g r c (answerOf g r c) (afterOf g r c)
+  one-call r c = supply .meets g r c .one-call
 
   -- a flash read keeps the lengths of the banks
   read-lengths : (s : State) (sram : List ℕ) (address : ℕ) → let t = flashReadOf g s sram address .after .state in
@@ -113,7 +113,7 @@ module _ (g : Geometry) (image : List ℕ) where
         c : Call
         c = callOf image k sram
 
-        o : OneCall g r (callOf image k sram)
+        o : OneCall g r (callOf image k sram) (answerOf g r (callOf image k sram)) (afterOf g r (callOf image k sram))
         o = one-call r (callOf image k sram)
 
         go : (a : Bool) → eqb (answerOf g r (callOf image k sram) .decline) 0 ≡ a → (b : Bool) → answerOf g r (callOf image k sram) .idle ≡ b

@@ -1,4 +1,4 @@
--- W-206: whom a call serves, who waits then, and which decline it gives, as facts. Assumes nothing.
+-- W-206: whom a call serves, who waits then, and which decline it gives, as facts of whatever a call may answer and leave. Assumes nothing.
 use Prim.Native.Nat.{ℕ, _+_, _%_, _<_, _≤_}
 use mathlib.Core.Path.{_≡_}
 use mathlib.Core.Bool.{true, false}
@@ -9,9 +9,11 @@ use Rattle.geometry.specs.declared.banks.Geometry.{Geometry}
 use Rattle.geometry.specs.Banks.{inRangeOf, bankWordsOf}
 use Rattle.geometry.specs.Lent.{mostSram}
 use Rattle.update.specs.Actions.{totalOf}
-use Rattle.row_signs.specs.Signs.{In, signAt, waitingOf, leftOf, queueOf}
+use Rattle.words.specs.Lists.{In, Rising}
+use Rattle.row_signs.specs.Signs.{signAt, waitingOf, leftOf, queueOf}
 use Rattle.row_judge.specs.Judge.{Judged}
-use Rattle.row.specs.Row.{RowState, Call, answerOf, afterOf, setOf, turnAt, Can, WouldSet, Waits}
+use Rattle.row_schedule.specs.declared.answer.ScheduleAnswer.{ScheduleAnswer}
+use Rattle.row.specs.Row.{RowState, Call, setOf, turnAt, Can, WouldSet, Waits}
 
 -- ---- whom the queue gives
 
@@ -75,50 +77,50 @@ pub record Begins (g : Geometry) (r : RowState) (c : Call) (i j : ℕ) : Type 0 
   pub held : Held g r c j
 
 -- "begins to wait, and the search goes on": those of the first i records met that are held back join the queue's end, "those of one call in record order"
-pub record Joined (g : Geometry) (r : RowState) (c : Call) (i : ℕ) : Type 0 where
+pub record Joined (g : Geometry) (r : RowState) (c : Call) (t : RowState) (i : ℕ) : Type 0 where
   pub new : List ℕ
-  pub queue : afterOf g r c .queue ≡ queueOf (waitingOf (r .queue) ++ new)
+  pub queue : t .queue ≡ queueOf (waitingOf (r .queue) ++ new)
   pub only : (j : ℕ) → In new j → Begins g r c i j
   pub all : (j : ℕ) → Begins g r c i j → In new j
-  pub rising : (p q : ℕ) → p < q → q < length new → getD new p 0 < getD new q 0
+  pub rising : Rising new
 
--- ---- what is promised of a call that is not declined
-pub record Choosing (g : Geometry) (r : RowState) (c : Call) : Type 0 where
+-- ---- what is promised of a call that is not declined: of its answer a, and of the row t that it leaves
+pub record Choosing (g : Geometry) (r : RowState) (c : Call) (a : ScheduleAnswer) (t : RowState) : Type 0 where
   -- one of three
-  pub one-of : answerOf g r c .decline ≡ 0 → Case g r c
+  pub one-of : a .decline ≡ 0 → Case g r c
   -- "it serves the longest waiting, the first of these in the queue, which then leaves it"
-  pub from-queue : answerOf g r c .decline ≡ 0 → (p : ℕ) → FirstWaiting g r c p
-      → (answerOf g r c .idle ≡ false) × ((answerOf g r c .served ≡ waiterAt r p)
-      × (afterOf g r c .queue ≡ queueOf (leftOf (waitingOf (r .queue)) p)))
+  pub from-queue : a .decline ≡ 0 → (p : ℕ) → FirstWaiting g r c p
+      → (a .idle ≡ false) × ((a .served ≡ waiterAt r p)
+      × (t .queue ≡ queueOf (leftOf (waitingOf (r .queue)) p)))
   -- "Else it serves the first after the last served, round the list, that is unfinished and not waiting"
-  pub from-list : answerOf g r c .decline ≡ 0 → (i : ℕ) → FirstMet g r c i
-      → (answerOf g r c .idle ≡ false) × ((answerOf g r c .served ≡ metAt r i) × Joined g r c i)
-  -- "With nobody to serve the call says idle", and only then
-  pub idle : answerOf g r c .decline ≡ 0 → Nobody g r c
-      → (answerOf g r c .idle ≡ true) × ((answerOf g r c .served ≡ 0) × ((answerOf g r c .event ≡ false) × Joined g r c (length (r .signs))))
-  pub idle-only : answerOf g r c .idle ≡ true → (answerOf g r c .decline ≡ 0) × Nobody g r c
+  pub from-list : a .decline ≡ 0 → (i : ℕ) → FirstMet g r c i
+      → (a .idle ≡ false) × ((a .served ≡ metAt r i) × Joined g r c t i)
+  -- "With nobody to serve the call says idle", and only then; it names record 0 (ours)
+  pub idle : a .decline ≡ 0 → Nobody g r c
+      → (a .idle ≡ true) × ((a .served ≡ 0) × ((a .event ≡ false) × Joined g r c t (length (r .signs))))
+  pub idle-only : a .idle ≡ true → (a .decline ≡ 0) × Nobody g r c
   -- the event is that of the turn of the sign that is served
-  pub event : answerOf g r c .decline ≡ 0 → answerOf g r c .idle ≡ false
-      → answerOf g r c .event ≡ turnAt g r c (answerOf g r c .served) .event
+  pub event : a .decline ≡ 0 → a .idle ≡ false
+      → a .event ≡ turnAt g r c (a .served) .event
   -- a sign at the total is "finished", and one past it is passed over
   pub past : (j : ℕ) → totalOf g ≤ signAt (r .signs) j .place → Can g r c j → ⊥
-  -- the queue has 32 entries, at most as many in use as there are records, and those past the count are 0
-  pub entries : answerOf g r c .decline ≡ 0 → (length (afterOf g r c .queue .numbers) ≡ 32) × (afterOf g r c .queue .count ≤ length (r .signs))
-  pub zeros : answerOf g r c .decline ≡ 0 → (p : ℕ) → afterOf g r c .queue .count ≤ p → getD (afterOf g r c .queue .numbers) p 0 ≡ 0
+  -- the queue has 32 entries (ours), at most as many in use as there are records, and those past the count are 0
+  pub entries : a .decline ≡ 0 → (length (t .queue .numbers) ≡ 32) × (t .queue .count ≤ length (r .signs))
+  pub zeros : a .decline ≡ 0 → (p : ℕ) → t .queue .count ≤ p → getD (t .queue .numbers) p 0 ≡ 0
 
 -- ---- and which decline it gives, exactly where
 
 abbrev pub JudgedCall : Geometry → RowState → Call → Type 0
 JudgedCall g r c = Judged g (c .k) (r .signs) (length (r .signs)) (r .queue) (r .last) (length (r .store)) (length (c .image)) (length (c .sram))
 
-pub record RowDeclines (g : Geometry) (r : RowState) (c : Call) : Type 0 where
-  pub geometry : inRangeOf g ≡ false → answerOf g r c .decline ≡ 1
-  pub lengths : inRangeOf g ≡ true → (length (c .image) ≡ bankWordsOf g → ⊥) ⊎ (mostSram < length (c .sram)) → answerOf g r c .decline ≡ 2
+pub record RowDeclines (g : Geometry) (r : RowState) (c : Call) (a : ScheduleAnswer) : Type 0 where
+  pub geometry : inRangeOf g ≡ false → a .decline ≡ 1
+  pub lengths : inRangeOf g ≡ true → (length (c .image) ≡ bankWordsOf g → ⊥) ⊎ (mostSram < length (c .sram)) → a .decline ≡ 2
   -- "19, after 1 and 2"
   pub row : inRangeOf g ≡ true → length (c .image) ≡ bankWordsOf g → length (c .sram) ≤ mostSram → (JudgedCall g r c → ⊥)
-      → answerOf g r c .decline ≡ 19
-  pub accepted : JudgedCall g r c → answerOf g r c .decline ≡ 0
-  pub accepted-only : answerOf g r c .decline ≡ 0 → JudgedCall g r c
-  -- beside a decline the numbers are 0
-  pub numbers : (answerOf g r c .decline ≡ 0 → ⊥)
-      → (answerOf g r c .idle ≡ false) × ((answerOf g r c .served ≡ 0) × (answerOf g r c .event ≡ false))
+      → a .decline ≡ 19
+  pub accepted : JudgedCall g r c → a .decline ≡ 0
+  pub accepted-only : a .decline ≡ 0 → JudgedCall g r c
+  -- beside a decline the numbers are 0 (ours)
+  pub numbers : (a .decline ≡ 0 → ⊥)
+      → (a .idle ≡ false) × ((a .served ≡ 0) × (a .event ≡ false))

@@ -5,3 +5,4 @@ pub mod RowCut
 pub mod Progress
 pub mod Rows
 pub mod TwoSigns
+pub mod Waiting

@@ -3,16 +3,17 @@ use Prim.Native.Nat.{ℕ, zero, suc, _+_, _-_}
 use mathlib.Core.Path.{_≡_}
 use mathlib.Core.Bool.{true, false}
 use mathlib.Core.List.{List, [], _∷_}
-use lib.ListN.{length, set}
+use lib.ListN.{length, set, take, drop}
 use Rattle.words.specs.Word.{pick}
 use Rattle.words.specs.Decline.{acceptedOf}
 use Rattle.geometry.specs.declared.banks.Geometry.{Geometry}
+use Rattle.geometry.specs.Banks.{bankWordsOf}
 use Rattle.device.specs.Record.{running}
+use Rattle.device.specs.State.{State, state}
 use Rattle.row_signs.specs.declared.sign.Sign.{Sign}
 use Rattle.row_signs.specs.declared.queue.Queue.{Queue}
 use Rattle.row_signs.specs.Signs.{signAt, waitingOf, queueOf, waitsOf}
-use Rattle.update.specs.Turn.{Turning}
-use Rattle.row_turn.specs.SignTurn.{signTurnOf}
+use Rattle.update.specs.Turn.{Turning, turnOf}
 use Rattle.row_schedule.specs.declared.answer.ScheduleAnswer.{ScheduleAnswer}
 use Rattle.row_schedule.specs.Schedule.{Scheduling, scheduleRowOf}
 
@@ -42,6 +43,10 @@ afterOf g r c =
     let d = scheduledOf g r c in
     record { signs = set (r .signs) (d .number) (d .sign); queue = d .answer .queue; last = d .answer .last; store = d .store }
 
+-- what a call leaves of an arbitrary answer, list and store: the queue and the last served are the answer's
+abbrev pub leaving : ScheduleAnswer → List Sign → List ℕ → RowState
+leaving a signs store = record { signs = signs; queue = a .queue; last = a .last; store = store }
+
 -- after the first n of a sequence of calls
 abbrev pub rowOf : Geometry → RowState → (ℕ → Call) → ℕ → RowState
 rowOf g r calls zero = r
@@ -55,9 +60,13 @@ setIn (s ∷ rest) = pick (running (s .device)) 1 0 + setIn rest
 abbrev pub setOf : RowState → ℕ
 setOf r = setIn (r .signs)
 
--- the turn of record j
+-- "each with its device, its place in the update and the start of each of its two banks in one lent store"
+abbrev pub stateIn : Geometry → List ℕ → Sign → State
+stateIn g store s = state (s .device) (take (bankWordsOf g) (drop (s .one) store)) (take (bankWordsOf g) (drop (s .two) store))
+
+-- the turn of record j: 01's, on its device, its place and its two banks
 abbrev pub turnAt : Geometry → RowState → Call → ℕ → Turning
-turnAt g r c j = signTurnOf g (r .store) (c .image) (c .sram) (signAt (r .signs) j)
+turnAt g r c j = let s = signAt (r .signs) j in turnOf g (stateIn g (r .store) s) (c .image) (c .sram) (s .place)
 
 -- record j can be served: "unfinished and with a turn that isn't declined"
 pub record Can (g : Geometry) (r : RowState) (c : Call) (j : ℕ) : Type 0 where

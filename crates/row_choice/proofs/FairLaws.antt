@@ -7,7 +7,8 @@ use Prim.Native.Nat.{ℕ, suc, _+_, _-_, _≤_, _<_}
 use native.Mathlib.Decide.{decLt, le-ind}
 use native.Mathlib.Omega.{arith}
 use lib.ListN.{length, getD, length-append, List·getD-append}
-use Rattle.row_signs.specs.Signs.{In, leftOf, waitsOf}
+use Rattle.words.specs.Lists.{In}
+use Rattle.row_signs.specs.Signs.{leftOf, waitsOf}
 use Rattle.row_choice.specs.Choice.{Known, recordsOf, readyOf, fromQueueOf, beginsOf, servedOf, waitersOf}
 use Rattle.row_choice.proofs.PlaceLaws.{after-seam, placeOf, left-one-fewer, left-at}
 use Rattle.row_choice.proofs.WaitsLaws.{waits-in, in-waits, not-waits}

@@ -10,7 +10,8 @@ use lib.ListN.{length}
 use borrow.Author.Tests.{ltb-false, lt-ltb}
 use Rattle.words.proofs.BitLaws.{true-not-false}
 use Rattle.words.proofs.PickLaws.{and-both}
-use Rattle.row_signs.specs.Signs.{In, leftOf, waitsOf}
+use Rattle.words.specs.Lists.{In}
+use Rattle.row_signs.specs.Signs.{leftOf, waitsOf}
 use Rattle.row_choice.specs.Choice.{Known, recordsOf, metOf, beforeOf, fullOf, readyOf, fromQueueOf, foundOf, beginsOf, servedOf, waitersOf}
 use Rattle.row_choice.proofs.PlaceLaws.{placeOf, left-one-fewer, left-at}
 use Rattle.row_choice.proofs.RoundLaws.{met-below, before-below, met-before}

@@ -8,7 +8,7 @@ use native.Mathlib.Omega.{arith}
 use lib.ListN.{length, getD, length-append, List·getD-append}
 use lib.Seq.{getD-append-seam}
 use Rattle.words.specs.Word.{pick}
-use Rattle.row_signs.specs.Signs.{In}
+use Rattle.words.specs.Lists.{In}
 use Rattle.row_choice.specs.Choice.{countOf, recordsOf}
 use Rattle.row_choice.proofs.WaitsLaws.{in-front, in-last}
 

@@ -11,7 +11,8 @@ use lib.ListN.{length, getD, length-append, List·getD-append}
 use borrow.Author.Tests.{not-true}
 use Rattle.words.proofs.BitLaws.{true-not-false}
 use Rattle.words.proofs.PickLaws.{and-both}
-use Rattle.row_signs.specs.Signs.{In, leftOf, waitsOf}
+use Rattle.words.specs.Lists.{In}
+use Rattle.row_signs.specs.Signs.{leftOf, waitsOf}
 use Rattle.row_choice.specs.Choice.{Known, countOf, recordsOf, beforeOf, readyOf, fromQueueOf, openOf, heldOf, foundOf, beginsOf, servedOf, waitersOf}
 use Rattle.row_choice.proofs.PlaceLaws.{after-seam, placeOf, left-one-fewer, left-at}
 use Rattle.row_choice.proofs.RecordsLaws.{records-count, records-rising}

@@ -12,7 +12,8 @@ use lib.Seq.{getD-append-seam}
 use borrow.Author.Tests.{eqb-true, eq-eqb}
 use Rattle.words.proofs.BitLaws.{true-not-false}
 use Rattle.words.proofs.FirstLaws.{any-some, some-any}
-use Rattle.row_signs.specs.Signs.{In, waitsOf}
+use Rattle.words.specs.Lists.{In}
+use Rattle.row_signs.specs.Signs.{waitsOf}
 use Rattle.row_choice.proofs.PlaceLaws.{after-seam}
 
 pub waits-in : (l : List ℕ) (j : ℕ) → waitsOf l j ≡ true → In l j

@@ -45,11 +45,11 @@ pub record Scheduling : Type 0 where
 abbrev pub scheduling : ℕ → Sign → List ℕ → ScheduleAnswer → Scheduling
 scheduling number sign store answer = record { number = number; sign = sign; store = store; answer = answer }
 
--- beside a decline queue and last served are as handed over, and the numbers 0
+-- beside a decline queue and last served are as handed over; it is not idle, the number served is 0, and there is no event (ours)
 abbrev pub declined : Decline → Queue → ℕ → ScheduleAnswer
 declined decline queue last = record { decline = numberOf decline; idle = false; served = 0; event = false; queue = queue; last = last }
 
--- "With nobody to serve the call says idle": the last served stays
+-- "With nobody to serve the call says idle": the last served stays; the number served is 0, and there is no event (ours)
 abbrev pub idle : Queue → ℕ → ScheduleAnswer
 idle queue last = record { decline = numberOf Decline.Accepted; idle = true; served = 0; event = false; queue = queue; last = last }
 

@@ -1,6 +1,5 @@
 -- W-206: the records of a row of signs, and their queue. Assumes nothing.
-use Prim.Native.Nat.{ℕ, zero, suc, _+_, _-_, _<_}
-use mathlib.Core.Path.{_≡_}
+use Prim.Native.Nat.{ℕ, zero, suc, _+_, _-_}
 use mathlib.Core.Bool.{Bool}
 use mathlib.Core.List.{List, [], _∷_, _++_}
 use lib.Dec.{eqb}
@@ -57,19 +56,13 @@ entriesOf numbers (suc n) = entriesOf numbers n ++ (getD numbers n 0 ∷ [])
 abbrev pub waitingOf : Queue → List ℕ
 waitingOf q = entriesOf (q .numbers) (q .count)
 
--- the queue of such a list; its entries past the count are 0
+-- the queue of such a list; its entries past the count are 0 (ours)
 abbrev pub queueOf : List ℕ → Queue
 queueOf waiting = record { count = length waiting; numbers = waiting ++ replicate (32 - length waiting) 0 }
 
 -- those that wait without the one at position p; without none where p lies past the last
 abbrev pub leftOf : List ℕ → ℕ → List ℕ
 leftOf waiting p = take p waiting ++ drop (p + 1) waiting
-
--- record j is entry `at` of a list of record numbers
-pub record In (l : List ℕ) (j : ℕ) : Type 0 where
-  pub at : ℕ
-  pub inside : at < length l
-  pub is : getD l at 0 ≡ j
 
 -- record i waits
 abbrev pub waitsOf : List ℕ → ℕ → Bool

@@ -59,7 +59,7 @@ playedOf g sram s script buffer =
     let output = linesOf g sram s script (recordsOf script) in
     playback Decline.Accepted (saturatedOf (length output)) (stateOf g sram s script (recordsOf script)) (putFirst output buffer)
 
--- a play; where it is declined "device and lent memory keep their contents", and so the buffer
+-- a play; where it is declined "device and lent memory keep their contents", and so the buffer; the bytes are 0 (ours)
 unfoldable pub playOf : Geometry → List ℕ → State → List ℕ → List ℕ → Playback
 playOf g sram s script buffer =
     pick (acceptedOf (declineOf g sram s script)) (playedOf g sram s script buffer) (playback (declineOf g sram s script) 0 s buffer)

@@ -14,7 +14,9 @@ use Rattle.words.specs.declared.decline.Decline.{Decline}
 use Rattle.words.specs.Decline.{numberOf, acceptedOf, firstOf}
 use Rattle.geometry.specs.declared.banks.Geometry.{Geometry}
 use Rattle.geometry.specs.Banks.{inRangeOf, bankWordsOf}
-use Rattle.geometry.specs.Lent.{mostSram, lengthsFitOf, lentDeclineUpTo, lentDeclineOf}
+use Rattle.geometry.specs.Lent.{mostSram, lengthsFitOf, lentDeclineUpTo, lentDeclineOf, LentDeclines}
+use Rattle.geometry.proofs.FitLaws.{lent-meets}
+use native.Mathlib.Omega.{arith}
 use Rattle.device.specs.State.{State}
 use Rattle.common_declines.specs.Possible.{possibleOf}
 use Rattle.common_declines.specs.CommonDecline.{commonDeclineOf}
@@ -187,7 +189,11 @@ module _ (g : Geometry) (sram : List ℕ) (s : State) (x : List ℕ) (number : �
   pub declines : Declines g sram s x number one two result (smallestOf g sram s x number one two result)
   declines =
       record {
-        lent = λ off. before (lent-declined off) off;
+        lent =
+            record {
+              geometry = λ out. refused 1 (lent-numbers .geometry out) (omega arith);
+              lengths-differ = λ listed unfit. refused 2 (lent-numbers .lengths-differ listed unfit) (omega arith);
+            };
         buffer = λ lent e. ap numberOf (before (other-buffer lent e) refl);
         device = λ lent buffer e. ap numberOf (before (no-device lent buffer e) refl);
         no-script = λ lent buffer possible e. ap numberOf (before (not-script lent buffer possible e) refl);
@@ -202,3 +208,12 @@ module _ (g : Geometry) (sram : List ℕ) (s : State) (x : List ℕ) (number : �
     where
       before : {d : Decline} → unplayed ≡ d → acceptedOf d ≡ false → smallestOf g sram s x number one two result .decline ≡ d
       before e off = declined-is (ap acceptedOf e ∙ off) ∙ e
+
+      lent-numbers : LentDeclines g (length (s .one) ∷ length (s .two) ∷ length one ∷ length two ∷ []) (length sram) (numberOf (lentOf g sram s one two))
+      lent-numbers = lent-meets g (length (s .one) ∷ length (s .two) ∷ length one ∷ length two ∷ []) (length sram)
+
+      -- by the number that 1 or 2 gives
+      refused : (n : ℕ) → numberOf (lentOf g sram s one two) ≡ n → 0 < n → numberOf (smallestOf g sram s x number one two result .decline) ≡ n
+      refused n is some =
+          let off = ne-eqb (numberOf (lentOf g sram s one two)) 0 (λ e. omega (arith, e, is, some)) in
+          ap numberOf (before (lent-declined off) off) ∙ is

@@ -1,12 +1,13 @@
 -- What the call leaves, and all that is promised of it. Assumes nothing.
-use Prim.Native.Nat.{ℕ, _*_, _-_, _%_}
+use Prim.Native.Nat.{ℕ, _*_, _-_, _%_, _<_}
 use mathlib.Core.Path.{_≡_, refl, sym, ap, subst, _∙_}
 use mathlib.Core.Bool.{Bool, true, false, not}
-use mathlib.Core.List.{List}
-use mathlib.Core.Logic.{⊎-elim}
+use mathlib.Core.List.{List, _++_}
+use mathlib.Core.Logic.{inl, inr, ⊎-elim}
+use native.Mathlib.Decide.{ℕ-discrete, decLt}
 use native.Mathlib.Omega.{arith}
 use lib.Dec.{eqb}
-use lib.ListN.{length, replicate, length-append, length-replicate}
+use lib.ListN.{length, take, drop, replicate, length-append, length-replicate, length-take, take-append-drop}
 use lib.Seq.{take-at, drop-at}
 use borrow.Author.Tests.{eqb-true, eq-eqb}
 use Rattle.words.specs.Word.{pick}
@@ -14,14 +15,18 @@ use Rattle.words.proofs.BitLaws.{true-not-false}
 use Rattle.words.proofs.PickLaws.{and-both}
 use Rattle.words.specs.declared.decline.Decline.{Decline}
 use Rattle.words.specs.Decline.{numberOf, acceptedOf}
+use Rattle.words.proofs.Numbers.{numbers}
 use Rattle.geometry.specs.declared.banks.Geometry.{Geometry}
+use Rattle.geometry.proofs.FitLaws.{lent-fixes}
 use Rattle.device.specs.State.{State}
+use Rattle.common_declines.specs.Possible.{possibleOf}
 use Rattle.script_format.specs.Records.{recordsOf, isScriptOf}
-use Rattle.script_smallest.specs.Smallest.{showsOf, smallestScriptOf, unplayedDeclineOf, answer, withZeros, searchedOf, smallestOf}
-use Rattle.script_smallest.specs.SmallestScripts.{Shown, Leaves, SmallestScripts}
+use Rattle.script_smallest.specs.Smallest.{showsOf, smallestScriptOf, unplayedDeclineOf, Smallest, answer, withZeros, searchedOf, smallestOf}
+use Rattle.script_smallest.specs.SmallestScripts.{Gives, Shown, lentOf, Playable, Declines, Leaves, Answers, SmallestScripts}
 use Rattle.script_smallest.proofs.WithoutLaws.{without}
 use Rattle.script_smallest.proofs.DropLaws.{one-result}
 use Rattle.script_smallest.proofs.SearchLaws.{opened, smallest-shorter}
+use Rattle.script_smallest.proofs.ShowLaws.{shows-gives, gives-shows}
 use Rattle.script_smallest.proofs.ShownLaws.{shown}
 use Rattle.script_smallest.proofs.Examples.{four, five, six}
 use Rattle.script_smallest.proofs.AnswerLaws.{one-of-six, declines}
@@ -120,5 +125,116 @@ module _ (g : Geometry) (sram : List ℕ) (s : State) (x : List ℕ) (number : �
       go true et false ev = not-found
       go false et v ev = declined et
 
+  abbrev own : Smallest
+  own = smallestOf g sram s x number one two result
+
+  answers : Answers g sram s x number one two result own
+  answers = record { declines = declines g sram s x number one two result; leaves = leaves }
+
+  -- ---- nothing else is as asked
+  module _ (a : Smallest) (m : Answers g sram s x number one two result a) where
+    -- one number, by the tests in their order
+    same-number : numberOf (a .decline) ≡ numberOf (own .decline)
+    same-number =
+        go (acceptedOf (lentOf g sram s one two)) refl (ℕ-discrete (length result) (length x)) (possibleOf g (s .device)) refl (isScriptOf x) refl
+      where
+        d : Declines g sram s x number one two result a
+        d = m .declines
+
+        e : Declines g sram s x number one two result own
+        e = answers .declines
+
+        played : Playable g sram s x one two result → (t : Bool) → showsOf g sram s number x ≡ t → numberOf (a .decline) ≡ numberOf (own .decline)
+        played p true shows =
+            let gives = shows-gives g sram s number x shows in
+            d .accepted p (not-zero shows) gives ∙ sym (e .accepted p (not-zero shows) gives)
+        played p false hides = never (ℕ-discrete number 0)
+          where
+            never : Dec (number ≡ 0) → numberOf (a .decline) ≡ numberOf (own .decline)
+            never (yes zero) = d .never p (inl zero) ∙ sym (e .never p (inl zero))
+            never (no some) =
+                let none : Gives g sram s x number → ⊥ = λ gives. true-not-false (sym (gives-shows g sram s number x some gives) ∙ hides) in
+                d .never p (inr none) ∙ sym (e .never p (inr none))
+
+        counted : acceptedOf (lentOf g sram s one two) ≡ true → length result ≡ length x → possibleOf g (s .device) ≡ true → isScriptOf x ≡ true
+            → Dec (64 < recordsOf x) → numberOf (a .decline) ≡ numberOf (own .decline)
+        counted lent buffer can known (yes many) = d .records lent buffer can known many ∙ sym (e .records lent buffer can known many)
+        counted lent buffer can known (no few) =
+            played (record { lent = lent; buffer = buffer; device = can; script = known; few = omega (arith, few) }) (showsOf g sram s number x) refl
+
+        go : (t : Bool) → acceptedOf (lentOf g sram s one two) ≡ t → Dec (length result ≡ length x) → (u : Bool) → possibleOf g (s .device) ≡ u
+            → (v : Bool) → isScriptOf x ≡ v → numberOf (a .decline) ≡ numberOf (own .decline)
+        go false off r u eu v ev = lent-fixes g _ _ _ (d .lent) off ∙ sym (lent-fixes g _ _ _ (e .lent) off)
+        go true lent (no differs) u eu v ev = d .buffer lent differs ∙ sym (e .buffer lent differs)
+        go true lent (yes same) false eu v ev = d .device lent same eu ∙ sym (e .device lent same eu)
+        go true lent (yes same) true eu false ev = d .no-script lent same eu ev ∙ sym (e .no-script lent same eu ev)
+        go true lent (yes same) true eu true ev = counted lent same eu ev (decLt 64 (recordsOf x))
+
+    same-decline : a .decline ≡ own .decline
+    same-decline = numbers .one (a .decline) (own .decline) same-number
+
+    -- what is left of an accepted call: the result, its records and zeros
+    record Same : Type 0 where
+      records : a .records ≡ own .records
+      first : a .scratchOne ≡ own .scratchOne
+      other : a .scratchTwo ≡ own .scratchTwo
+      bytes : a .result ≡ own .result
+
+    abbrev l : Leaves g sram s x number one two result a
+    l = m .leaves
+
+    abbrev k : Leaves g sram s x number one two result own
+    k = answers .leaves
+
+    accepted-same : acceptedOf (a .decline) ≡ true → Same
+    accepted-same on =
+        let also : acceptedOf (own .decline) ≡ true = ap acceptedOf (sym same-decline) ∙ on in
+        let front = one-result g sram s number x _ _ (l .shown on .drops) (k .shown also .drops) in
+        let size : (b : Smallest) (n : Leaves g sram s x number one two result b) → acceptedOf (b .decline) ≡ true
+        → length (take (8 * b .records) (b .result)) ≡ 8 * b .records
+        = λ b n ok. omega (arith, length-take (8 * b .records) (b .result), n .long ok, n .count ok) in
+        let records : a .records ≡ own .records = omega (arith, size a l on, size own k also, ap length front) in
+        let (first, other) = l .scratch (inl (eqb-true _ _ on)) in
+        let (one-too, two-too) = k .scratch (inl (eqb-true _ _ also)) in
+        let zeros : drop (8 * a .records) (a .result) ≡ drop (8 * own .records) (own .result) =
+        l .rest on ∙ ap (λ (n : ℕ). replicate (length x - 8 * n) 0) records ∙ sym (k .rest also) in
+        record {
+          records = records;
+          first = first ∙ sym one-too;
+          other = other ∙ sym two-too;
+          bytes = sym (take-append-drop (8 * a .records) (a .result)) ∙ (λ i. front i ++ zeros i) ∙ take-append-drop (8 * own .records) (own .result);
+        }
+
+    declined-same : acceptedOf (a .decline) ≡ false → Same
+    declined-same off =
+        let also : acceptedOf (own .decline) ≡ false = ap acceptedOf (sym same-decline) ∙ off in
+        let (bytes, none) = l .kept off in
+        let (kept, zero) = k .kept also in
+        let (first, other) = scratch (ℕ-discrete (numberOf (a .decline)) 21) in
+        record { records = none ∙ sym zero; first = first; other = other; bytes = bytes ∙ sym kept }
+      where
+        some : numberOf (a .decline) ≡ 0 → ⊥
+        some e = true-not-false (sym (eq-eqb _ _ e) ∙ off)
+
+        scratch : Dec (numberOf (a .decline) ≡ 21) → (a .scratchOne ≡ own .scratchOne) × (a .scratchTwo ≡ own .scratchTwo)
+        scratch (yes shown) =
+            let (first, other) = l .scratch (inr shown) in
+            let (one-too, two-too) = k .scratch (inr (sym same-number ∙ shown)) in
+            (first ∙ sym one-too, other ∙ sym two-too)
+        scratch (no other) =
+            let (first, second) = l .untouched some other in
+            let (one-too, two-too) = k .untouched (λ e. some (same-number ∙ e)) (λ e. other (same-number ∙ e)) in
+            (first ∙ sym one-too, second ∙ sym two-too)
+
+    one-answer : a ≡ own
+    one-answer = by-decline (acceptedOf (a .decline)) refl
+      where
+        all : Same → a ≡ own
+        all same = λ i. answer (same-decline i) (same .records i) (same .first i) (same .other i) (same .bytes i)
+
+        by-decline : (t : Bool) → acceptedOf (a .decline) ≡ t → a ≡ own
+        by-decline true on = all (accepted-same on)
+        by-decline false off = all (declined-same off)
+
 pub smallest-scripts : SmallestScripts
-smallest-scripts = record { without = without; one-result = one-result; declines = declines; leaves = leaves; four = four; five = five; six = six }
+smallest-scripts = record { without = without; one-result = one-result; meets = answers; fixes = one-answer; four = four; five = five; six = six }

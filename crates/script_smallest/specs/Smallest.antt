@@ -76,7 +76,7 @@ withZeros bytes n = bytes ++ replicate (n - length bytes) 0
 abbrev pub answer : Decline → ℕ → List ℕ → List ℕ → List ℕ → Smallest
 answer decline records one two result = record { decline = decline; records = records; scratchOne = one; scratchTwo = two; result = result }
 
--- "21, after it, the play never gives the number"; else what no record can go of
+-- "21, after it, the play never gives the number", with 0 records (ours); else what no record can go of
 unfoldable pub searchedOf : Geometry → List ℕ → State → List ℕ → ℕ → List ℕ → Smallest
 searchedOf g sram s script number result =
     let smallest = smallestScriptOf g sram s number script in
@@ -85,7 +85,7 @@ searchedOf g sram s script number result =
     (answer Decline.NotShown 0 (s .one) (s .two) result)
 
 -- "Afterwards the scratch banks hold the originals' contents, also where 21 is given; nothing else lent changes then." With every other decline the scratch
--- banks are as before, too.
+-- banks are as before, too, and the records are 0 (ours).
 unfoldable pub smallestOf : Geometry → List ℕ → State → List ℕ → ℕ → List ℕ → List ℕ → List ℕ → Smallest
 smallestOf g sram s script number one two result =
     let decline = unplayedDeclineOf g s (length sram) script (length one) (length two) (length result) in

@@ -1,4 +1,4 @@
--- W-210: what is promised of the smallest script, for every call. Assumes nothing.
+-- W-210: what is promised of the smallest script, for every call, and that this fixes the call. Assumes nothing.
 use Prim.Native.Nat.{ℕ, _+_, _*_, _-_, _<_, _≤_}
 use mathlib.Core.Path.{_≡_}
 use mathlib.Core.Bool.{true, false}
@@ -8,11 +8,13 @@ use lib.ListN.{length, take, drop, replicate}
 use Rattle.words.specs.declared.decline.Decline.{Decline}
 use Rattle.words.specs.Decline.{numberOf, acceptedOf}
 use Rattle.geometry.specs.declared.banks.Geometry.{Geometry}
-use Rattle.geometry.specs.Lent.{lentDeclineOf}
+use Rattle.geometry.specs.Lent.{lentDeclineOf, LentDeclines}
 use Rattle.device.specs.State.{State}
 use Rattle.common_declines.specs.Possible.{possibleOf}
 use Rattle.script_format.specs.Records.{Bytes, recordOf, recordsOf, isScriptOf}
-use Rattle.script_smallest.specs.Smallest.{answerOf, withoutOf, Smallest, smallestOf}
+use Rattle.script_record.specs.Record.{recordAfterOf}
+use Rattle.script_play.specs.Play.{stateOf}
+use Rattle.script_smallest.specs.Smallest.{withoutOf, Smallest, smallestOf}
 
 -- what a script without record i is, by its records
 pub record Without (x : List ℕ) (i : ℕ) : Type 0 where
@@ -20,11 +22,15 @@ pub record Without (x : List ℕ) (i : ℕ) : Type 0 where
   pub below : (k : ℕ) → k < i → recordOf (withoutOf x i) k ≡ recordOf x k
   pub above : (k : ℕ) → i ≤ k → k + 1 < recordsOf x → recordOf (withoutOf x i) k ≡ recordOf x (k + 1)
 
+-- the answer to record i of a play of x: the record is played on what those before it left
+abbrev pub answerAt : Geometry → List ℕ → State → List ℕ → ℕ → ℕ
+answerAt g sram s x i = numberOf (recordAfterOf g sram (stateOf g sram s x i) (recordOf x i) .decline)
+
 -- a record of a play of x that gives the number
 pub record Gives (g : Geometry) (sram : List ℕ) (s : State) (x : List ℕ) (number : ℕ) : Type 0 where
   pub at : ℕ
   pub below : at < recordsOf x
-  pub answers : answerOf g sram s x at ≡ number
+  pub answers : answerAt g sram s x at ≡ number
 
 -- "drop the lowest record whose removal still leaves that number among the answers of the play, begin again from the top, and stop when none can go":
 -- so x becomes r, and no other (`one-result`)
@@ -51,8 +57,8 @@ pub record Shown (g : Geometry) (sram : List ℕ) (s : State) (x : List ℕ) (nu
   -- where no record of the script can go, it is the script
   pub whole : ((i : ℕ) → i < recordsOf x → Gives g sram s (withoutOf x i) number → ⊥) → r ≡ x
   -- only its last record is refused, with that number
-  pub last : (k : ℕ) → k + 1 ≡ recordsOf r → answerOf g sram s r k ≡ number
-  pub accepted-before : (k : ℕ) → k + 1 < recordsOf r → answerOf g sram s r k ≡ 0
+  pub last : (k : ℕ) → k + 1 ≡ recordsOf r → answerAt g sram s r k ≡ number
+  pub accepted-before : (k : ℕ) → k + 1 < recordsOf r → answerAt g sram s r k ≡ 0
 
 -- declines 1 and 2, by the geometry and the lengths of the four banks and of the SRAM
 abbrev pub lentOf : Geometry → List ℕ → State → List ℕ → List ℕ → Decline
@@ -69,7 +75,7 @@ pub record Playable (g : Geometry) (sram : List ℕ) (s : State) (x : List ℕ) 
 -- which number the call gives, exactly where: 1, 2, 3, 14, 20, 21 in this order
 pub record Declines (g : Geometry) (sram : List ℕ) (s : State) (x : List ℕ) (number : ℕ) (one two result : List ℕ) (a : Smallest) : Type 0 where
   -- 1 and 2; and 2, "a result buffer of another length"
-  pub lent : acceptedOf (lentOf g sram s one two) ≡ false → a .decline ≡ lentOf g sram s one two
+  pub lent : LentDeclines g (length (s .one) ∷ length (s .two) ∷ length one ∷ length two ∷ []) (length sram) (numberOf (a .decline))
   pub buffer : acceptedOf (lentOf g sram s one two) ≡ true → (length result ≡ length x → ⊥) → numberOf (a .decline) ≡ 2
   -- 3 and 14, each after those before it
   pub device : acceptedOf (lentOf g sram s one two) ≡ true → length result ≡ length x → possibleOf g (s .device) ≡ false → numberOf (a .decline) ≡ 3
@@ -83,7 +89,7 @@ pub record Declines (g : Geometry) (sram : List ℕ) (s : State) (x : List ℕ) 
   pub accepted : Playable g sram s x one two result → (number ≡ 0 → ⊥) → Gives g sram s x number → numberOf (a .decline) ≡ 0
   -- a play of bytes answers with 0, 4, 5 or 6, so that every other number is never given
   pub only : Playable g sram s x one two result → Bytes x → (i : ℕ) → i < recordsOf x
-      → let n = answerOf g sram s x i in (n ≡ 0) ⊎ ((n ≡ 4) ⊎ ((n ≡ 5) ⊎ (n ≡ 6)))
+      → let n = answerAt g sram s x i in (n ≡ 0) ⊎ ((n ≡ 4) ⊎ ((n ≡ 5) ⊎ (n ≡ 6)))
   pub others : Playable g sram s x one two result → Bytes x → (number ≡ 4 → ⊥) → (number ≡ 5 → ⊥) → (number ≡ 6 → ⊥) → numberOf (a .decline) ≡ 21
 
 -- what the call leaves
@@ -96,9 +102,15 @@ pub record Leaves (g : Geometry) (sram : List ℕ) (s : State) (x : List ℕ) (n
   pub rest : acceptedOf (a .decline) ≡ true → drop (8 * a .records) (a .result) ≡ replicate (length x - 8 * a .records) 0
   -- "Afterwards the scratch banks hold the originals' contents, also where 21 is given; nothing else lent changes then."
   pub scratch : (numberOf (a .decline) ≡ 0) ⊎ (numberOf (a .decline) ≡ 21) → (a .scratchOne ≡ s .one) × (a .scratchTwo ≡ s .two)
+  -- beside a decline the result is as before, and its records are 0 (ours)
   pub kept : acceptedOf (a .decline) ≡ false → (a .result ≡ result) × (a .records ≡ 0)
   -- with another decline the scratch banks are as before, too
   pub untouched : (numberOf (a .decline) ≡ 0 → ⊥) → (numberOf (a .decline) ≡ 21 → ⊥) → (a .scratchOne ≡ one) × (a .scratchTwo ≡ two)
+
+-- all that W-210 asks of an answer and of what the call leaves
+pub record Answers (g : Geometry) (sram : List ℕ) (s : State) (x : List ℕ) (number : ℕ) (one two result : List ℕ) (a : Smallest) : Type 0 where
+  pub declines : Declines g sram s x number one two result a
+  pub leaves : Leaves g sram s x number one two result a
 
 -- a call that is played and gives the number
 pub record Example (number : ℕ) : Type 0 where
@@ -117,10 +129,11 @@ pub record SmallestScripts : Type 0 where
   pub without : (x : List ℕ) (i : ℕ) → i < recordsOf x → Without x i
   -- what "drop .., begin again .., and stop" leaves of a script is one script
   pub one-result : (g : Geometry) (sram : List ℕ) (s : State) (number : ℕ) (x r q : List ℕ) → Drops g sram s number x r → Drops g sram s number x q → r ≡ q
-  pub declines : (g : Geometry) (sram : List ℕ) (s : State) (x : List ℕ) (number : ℕ) (one two result : List ℕ)
-      → Declines g sram s x number one two result (smallestOf g sram s x number one two result)
-  pub leaves : (g : Geometry) (sram : List ℕ) (s : State) (x : List ℕ) (number : ℕ) (one two result : List ℕ)
-      → Leaves g sram s x number one two result (smallestOf g sram s x number one two result)
+  -- every call is answered so, and no other answer, scratch banks and result are as asked
+  pub meets : (g : Geometry) (sram : List ℕ) (s : State) (x : List ℕ) (number : ℕ) (one two result : List ℕ)
+      → Answers g sram s x number one two result (smallestOf g sram s x number one two result)
+  pub fixes : (g : Geometry) (sram : List ℕ) (s : State) (x : List ℕ) (number : ℕ) (one two result : List ℕ) (a : Smallest)
+      → Answers g sram s x number one two result a → a ≡ smallestOf g sram s x number one two result
   -- each of the three numbers that a play can give besides 0 is given by one
   pub four : Example 4
   pub five : Example 5

@@ -1,3 +1,4 @@
 pub mod ReadLaws
 pub mod PlayLaws
+pub mod AnswerLaws
 pub mod WrittenScript

@@ -13,7 +13,6 @@ use Rattle.geometry.proofs.SizeLaws.{in-range}
 use Rattle.sequence.specs.Sequence.{sequenceIndexOf}
 use Rattle.device.specs.State.{State, After, bankOf}
 use Rattle.common_declines.proofs.CommonDeclineLaws.{opens}
-use Rattle.controller.specs.Controller.{runOf}
 use Rattle.script_format.specs.declared.Record.{Record}
 use Rattle.script_format.specs.Records.{recordOf, recordsOf}
 use Rattle.script_record.specs.Record.{recordAfterOf}
@@ -21,13 +20,12 @@ use Rattle.script_play.specs.Play.{stateOf, declineOf, playDeclineOf, playedOf,
 use Rattle.update.specs.declared.actions.Action.{Action}
 use Rattle.update.specs.declared.actions.Action.the-variants.{Store, Step}
 use Rattle.update.specs.Actions.{recorded, actionsOf, actionAtOf, totalOf}
-use Rattle.update.specs.Run.{operationsOf}
 use Rattle.update.specs.Start.{lowerWordOf}
 use Rattle.update.specs.Turn.{nextActionOf, performOf, performed, Turning, turnOf}
 use Rattle.update.specs.PowerFail.{Position, at, turnsOf, afterTurns, placeAfter, Cut, restarted, Restarts, old, Lower, SameBanks, Update, Claims}
 use Rattle.update.proofs.StartLaws.{starts}
 use Rattle.update.proofs.ActionLaws.{actions-total, action-listed}
-use Rattle.update.proofs.RunLaws.{turns-run, turns-action, turns-place}
+use Rattle.update.proofs.RunLaws.{one-position, turns-action, turns-place}
 use Rattle.update.proofs.MoveLaws.{turns-append}
 use Rattle.update.proofs.LargerTotals.{action-fits}
 use Rattle.update.proofs.PowerFail.{power-fail}
@@ -135,10 +133,7 @@ module _ (sram : List ℕ) (short : length sram ≤ 16384) where
     under-way srams =
         let n = placeAfter g s image srams in
         let within : n ≤ totalOf g = power-fail g image .within s update srams in
-        played n within
-        ∙ turns-run g s image update (turns n)
-        ∙ ap (λ (k : ℕ). runOf g s (operationsOf (take k actions))) (turns-count n within)
-        ∙ sym (turns-run g s image update srams)
+        played n within ∙ ap (λ (p : Position). p .state) (one-position g s image update (turns n) srams (turns-count n within))
 
     -- ---- a play of records of actions that fit is not declined
     accepted : (l : List Action) → AllFit l → acceptedOf (declineOf g sram s (recordBytesOf l)) ≡ true

@@ -1,15 +1,12 @@
 -- What is written is a script whose play is the update: the records of the list of actions, which depends on t and not on the rest of the
 -- sequence word. Assumes nothing.
 use mathlib.Core.Path.{_≡_, refl, sym, ap, _∙_}
-use mathlib.Core.Bool.{true, false}
+use mathlib.Core.Bool.{true}
 use mathlib.Core.List.{List}
-use Prim.Native.Nat.{ℕ, zero, suc, _%_, _*_, _≤_, _<_}
+use Prim.Native.Nat.{ℕ, zero, suc, _≤_, _<_}
 use native.Mathlib.Omega.{arith}
-use lib.ListN.{length, drop}
-use lib.Seq.{take-at, drop-at}
-use borrow.Author.Tests.{le-leb, lt-leb}
+use lib.ListN.{length}
 use Rattle.words.specs.Decline.{acceptedOf}
-use Rattle.script_format.specs.Records.{bytesOf}
 use Rattle.geometry.specs.declared.banks.Geometry.{Geometry}
 use Rattle.geometry.specs.Banks.{inRangeOf}
 use Rattle.geometry.proofs.SizeLaws.{in-range}
@@ -24,7 +21,8 @@ use Rattle.update.proofs.RunLaws.{turns-place}
 use Rattle.update.proofs.LargerTotals.{action-fits}
 use Rattle.script_write.specs.Script.{scriptOf, writeScriptDeclineOf, writeScriptOf}
 use Rattle.script_write.proofs.ScriptLaws.{script-length}
-use Rattle.script_update.specs.WrittenScript.{t, scriptFor, Answers, IsScript, Plays, WrittenScript}
+use Rattle.script_update.specs.WrittenScript.{t, scriptFor, IsScript, Plays, WrittenScript}
+use Rattle.script_update.proofs.AnswerLaws.{is-written, answers, one-answer}
 use Rattle.script_update.proofs.ReadLaws.{AllFit, all-bytes, record-read, records-counted, records-script}
 use Rattle.script_update.proofs.PlayLaws.{record-action, under-way, record-accepted, record-turn, play-ends}
 use Rattle.script_update.proofs.PlayLaws.{play-first, play-claims, same-word, play-again}
@@ -46,25 +44,6 @@ module _ (g : Geometry) (image : List ℕ) (v w : ℕ) (e : tseqOf v ≡ tseqOf 
       (same-blocks (bankQuadsOf g) (λ i. quadBlock g (programmedQuadOf g i) (newQuadOf g image v (programmedQuadOf g i)))
       (λ i. quadBlock g (programmedQuadOf g i) (newQuadOf g image w (programmedQuadOf g i)))
       (λ i. ap (quadBlock g (programmedQuadOf g i)) (same-quad (programmedQuadOf g i))))
-
--- ---- the call
-module _ (g : Geometry) (s : State) (image buffer : List ℕ) where
-  start-first : acceptedOf (startOf g s image .decline) ≡ false → writeScriptDeclineOf g s image (length buffer) ≡ startOf g s image .decline
-  unfolding writeScriptDeclineOf
-  start-first h = rw h
-
-  answers : Answers g s image buffer
-  unfolding writeScriptOf writeScriptDeclineOf
-  answers =
-      record {
-        start-first = λ h. rw (h, h);
-        too-short = λ h l. (rw (h, lt-leb (8 * totalOf g) (length buffer) l), refl);
-        written =
-            λ h l. let script = scriptFor g s image in
-            let size = script-length g image (lowerWordOf g s) in
-            rw (h, le-leb (8 * totalOf g) (length buffer) l, size)
-            (refl, take-at script (drop (8 * totalOf g) buffer) (8 * totalOf g) size, drop-at script (drop (8 * totalOf g) buffer) (8 * totalOf g) size);
-      }
 
 -- ---- what is written
 module _ (g : Geometry) (listed : inRangeOf g ≡ true) (image : List ℕ) (words : Words image) (w : ℕ) where
@@ -117,15 +96,11 @@ unfolding writeScriptOf writeScriptDeclineOf
 serves g s u image buffer ok also same = rw (ok, also, by-t g image (lowerWordOf g s) (lowerWordOf g u) same)
 
 pub written-script : WrittenScript
-unfolding bytesOf
 written-script =
     record {
-      answers = answers;
-      store-bytes =
-          λ r form value small few. let number : r % 256 ≡ r = omega arith in
-          let form-byte : form % 256 ≡ form = omega arith in
-          rw (number, form-byte);
-      step-bytes = refl;
+      meets = answers;
+      fixes = one-answer;
+      is-written = is-written;
       is-script = is-script;
       by-t = by-t;
       serves = serves;

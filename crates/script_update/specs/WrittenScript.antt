@@ -1,12 +1,11 @@
--- W-202: what is written is a script, and its play is the update. Assumes nothing.
-use Prim.Native.Nat.{ℕ, _/_, _%_, _*_, _≤_, _<_}
+-- W-202: what is written, byte by byte, and that this fixes the call; that it is a script, and its play the update. Assumes nothing.
+use Prim.Native.Nat.{ℕ, _+_, _/_, _%_, _*_, _≤_, _<_}
 use mathlib.Core.Path.{_≡_}
 use mathlib.Core.Bool.{true, false}
-use mathlib.Core.List.{List, [], _∷_, _++_}
-use lib.ListN.{length, getD, take, drop}
-use Rattle.words.specs.declared.decline.Decline.{Decline}
+use mathlib.Core.List.{List, [], _∷_}
+use lib.ListN.{length, getD, take}
 use Rattle.words.specs.Decline.{numberOf, acceptedOf}
-use Rattle.script_format.specs.Records.{recordOf, recordsOf, bytesOf, isScriptOf}
+use Rattle.script_format.specs.Records.{recordOf, recordsOf, isScriptOf}
 use Rattle.script_record.specs.Record.{recordAfterOf}
 use Rattle.script_play.specs.Play.{stateOf, playOf}
 use Rattle.geometry.specs.declared.banks.Geometry.{Geometry}
@@ -14,12 +13,13 @@ use Rattle.geometry.specs.Banks.{inRangeOf}
 use Rattle.geometry.specs.Lent.{mostSram}
 use Rattle.sequence.specs.Sequence.{tseqOf}
 use Rattle.device.specs.State.{State}
+use Rattle.update.specs.declared.actions.Action.{Action}
 use Rattle.update.specs.declared.actions.Action.the-variants.{Store, Step}
 use Rattle.update.specs.Actions.{recorded, actionsOf, totalOf}
 use Rattle.update.specs.Start.{lowerWordOf, startOf}
 use Rattle.update.specs.Turn.{nextActionOf, turnOf}
 use Rattle.update.specs.PowerFail.{afterTurns, placeAfter, Cut, restarted, Restarts, old, Lower, SameBanks, Words, Update, Claims}
-use Rattle.script_write.specs.Script.{scriptOf, writing, writeScriptOf}
+use Rattle.script_write.specs.Script.{scriptOf, Writing, writeScriptOf}
 
 -- the script of an image on a sign as it stands, and t
 abbrev pub scriptFor : Geometry → State → List ℕ → List ℕ
@@ -32,19 +32,31 @@ t g s = tseqOf (lowerWordOf g s)
 abbrev pub Short : List (List ℕ) → Type 0
 Short srams = (i : ℕ) → length (getD srams i []) ≤ mostSram
 
--- the call: which of its answers it gives, and what it leaves in the buffer
-pub record Answers (g : Geometry) (s : State) (image buffer : List ℕ) : Type 0 where
+-- "kind (0 store, 1 step ..), register .., form, 0, value little-endian. Unused bytes are 0.": the eight bytes of an action
+abbrev pub eightOf : Action → List ℕ
+eightOf (Store r form value) = 0 ∷ r ∷ form ∷ 0 ∷ value % 256 ∷ value / 256 % 256 ∷ value / 65536 % 256 ∷ value / 16777216 % 256 ∷ []
+eightOf Step = 1 ∷ 0 ∷ 0 ∷ 0 ∷ 0 ∷ 0 ∷ 0 ∷ 0 ∷ []
+
+-- the start is accepted, and the buffer has room for 8 × total bytes
+pub record Room (g : Geometry) (s : State) (image buffer : List ℕ) : Type 0 where
+  pub started : acceptedOf (startOf g s image .decline) ≡ true
+  pub room : 8 * totalOf g ≤ length buffer
+
+-- what W-202 asks of the answer r of a call, and of the buffer after it
+pub record Answers (g : Geometry) (s : State) (image buffer : List ℕ) (r : Writing) : Type 0 where
   -- "Start's own checks come first."
-  pub start-first : acceptedOf (startOf g s image .decline) ≡ false → writeScriptOf g s image buffer ≡ writing (startOf g s image .decline) 0 buffer
+  pub start-first : acceptedOf (startOf g s image .decline) ≡ false → numberOf (r .decline) ≡ numberOf (startOf g s image .decline)
   -- "Turned away: 17, after those, the buffer is shorter than 8 × total."
-  pub too-short : acceptedOf (startOf g s image .decline) ≡ true → length buffer < 8 * totalOf g
-      → (writeScriptOf g s image buffer ≡ writing Decline.ScriptBuffer 0 buffer) × (numberOf Decline.ScriptBuffer ≡ 17)
-  -- "For a start that is accepted, every action is written as an 8-byte record into a lent buffer, in order, and bytes past the last record
-  -- keep their contents.": the first 8 × total bytes of the buffer are the script, the others what they were
-  pub written : acceptedOf (startOf g s image .decline) ≡ true → 8 * totalOf g ≤ length buffer → let r = writeScriptOf g s image buffer in
-      (r ≡ writing Decline.Accepted (totalOf g) (scriptFor g s image ++ drop (8 * totalOf g) buffer))
-      × (take (8 * totalOf g) (r .buffer) ≡ scriptFor g s image)
-      × (drop (8 * totalOf g) (r .buffer) ≡ drop (8 * totalOf g) buffer)
+  pub too-short : acceptedOf (startOf g s image .decline) ≡ true → length buffer < 8 * totalOf g → numberOf (r .decline) ≡ 17
+  pub accepted : Room g s image buffer → numberOf (r .decline) ≡ 0
+  -- declined it leaves the buffer, and the records are 0 (ours)
+  pub declined : (numberOf (r .decline) ≡ 0 → ⊥) → (r .records ≡ 0) × (r .buffer ≡ buffer)
+  -- "For a start that is accepted, every action is written as an 8-byte record into a lent buffer, in order"
+  pub counted : Room g s image buffer → (r .records ≡ totalOf g) × (length (r .buffer) ≡ length buffer)
+  pub written : Room g s image buffer → (i k : ℕ) → i < totalOf g → k < 8
+      → getD (r .buffer) (8 * i + k) 0 ≡ getD (eightOf (getD (actionsOf g image (lowerWordOf g s)) i Step)) k 0
+  -- "and bytes past the last record keep their contents"
+  pub rest : Room g s image buffer → (k : ℕ) → 8 * totalOf g ≤ k → getD (r .buffer) k 0 ≡ getD buffer k 0
 
 -- what is written, for a geometry that decline 1 takes, an image of words of 32 bits and any sequence word
 pub record IsScript (g : Geometry) (image : List ℕ) (w : ℕ) : Type 0 where
@@ -84,12 +96,12 @@ pub record Plays (g : Geometry) (s : State) (image sram : List ℕ) (script : Li
       → SameBanks (stateOf g sram s script (totalOf g)) (stateOf g other (restarted g u c) script (totalOf g)))
 
 pub record WrittenScript : Type 0 where
-  pub answers : (g : Geometry) (s : State) (image buffer : List ℕ) → Answers g s image buffer
-  -- "8-byte record": its bytes, for a store of a register and a form, and for a step
-  pub store-bytes : (r form value : ℕ) → r < 256 → form < 256
-      → bytesOf (recorded (Store r form value))
-      ≡ 0 ∷ r ∷ form ∷ 0 ∷ value % 256 ∷ value / 256 % 256 ∷ value / 65536 % 256 ∷ value / 16777216 % 256 ∷ []
-  pub step-bytes : bytesOf (recorded Step) ≡ 1 ∷ 0 ∷ 0 ∷ 0 ∷ 0 ∷ 0 ∷ 0 ∷ 0 ∷ []
+  -- every call is answered so, and no other answer is as asked
+  pub meets : (g : Geometry) (s : State) (image buffer : List ℕ) → Answers g s image buffer (writeScriptOf g s image buffer)
+  pub fixes : (g : Geometry) (s : State) (image buffer : List ℕ) (r : Writing) → Answers g s image buffer r → r ≡ writeScriptOf g s image buffer
+  -- the script of which the next fields speak is what the call writes
+  pub is-written : (g : Geometry) (s : State) (image buffer : List ℕ) → Room g s image buffer
+      → take (8 * totalOf g) (writeScriptOf g s image buffer .buffer) ≡ scriptFor g s image
   pub is-script : (g : Geometry) → inRangeOf g ≡ true → (image : List ℕ) → Words image → (w : ℕ) → IsScript g image w
   -- it depends on geometry, image and t alone, so it serves every sign with an accepted start and that t
   pub by-t : (g : Geometry) (image : List ℕ) (v w : ℕ) → tseqOf v ≡ tseqOf w → scriptOf g image v ≡ scriptOf g image w

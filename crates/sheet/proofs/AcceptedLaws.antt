@@ -30,5 +30,5 @@ holds g d one two buffer h =
       range = lent .range;
       first = lent .banks .0;
       other = lent .banks .1 .0;
-      room = leb-true _ _ (held _ Decline.Accepted Decline.SheetBuffer refl fits .0);
+      room = leb-true _ _ (held _ Decline.Accepted _ refl fits .0);
     }

@@ -1,3 +1,6 @@
 pub mod AcceptedLaws
 pub mod WidthLaws
 pub mod PutLaws
+pub mod PlaceLaws
+pub mod LineLaws
+pub mod PageSheets

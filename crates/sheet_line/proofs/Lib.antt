@@ -1,2 +1,3 @@
 pub mod WidthLaws
 pub mod PutLaws
+pub mod LineLaws

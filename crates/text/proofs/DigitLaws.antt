@@ -1,13 +1,15 @@
--- How many digits a number has.
+-- How many digits a number has, and which stands where.
 -- Assumes nothing.
 use mathlib.Core.Path.{_≡_, refl}
 use mathlib.Core.List.{List, [], _∷_}
+use mathlib.Core.Logic.{_⊎_, inl, inr}
 use Prim.Native.Nat.{ℕ, zero, suc, _+_, _-_, _/_, _%_, _^_, _≤_, _<_}
+use native.Mathlib.Nat.{mod-lt, div-one, div-div-eq-div-mul, pow-succ', pow-le-pow-right}
 use native.Mathlib.Decide.{decLe}
 use native.Mathlib.Omega.{arith}
 use borrow.Author.Tests.{lt-ltb, le-ltb}
-use lib.ListN.{length, set, length-append}
-use lib.Seq.{sets}
+use lib.ListN.{length, getD, set, length-append, List·getD-append}
+use lib.Seq.{sets, getD-at}
 use Rattle.text.specs.Digits.{digitOf, digitsOf, widthWithin, widthOf}
 use Rattle.text.proofs.BufferLaws.{sets-append, sets-past}
 
@@ -16,6 +18,30 @@ pub digits-length : (base n k : ℕ) → length (digitsOf base n k) ≡ k
 digits-length base n zero = refl
 digits-length base n (suc k) =
     rw (length-append (digitsOf base (n / base) k) (digitOf (n % base) ∷ []), digits-length base (n / base) k) (omega arith)
+
+-- digit k, counted from the right
+pub digit-at : (n width k : ℕ) → k < width → getD (digitsOf 10 n width) (width - 1 - k) 0 ≡ 48 + n / 10 ^ k % 10
+unfolding digitOf
+digit-at n zero k l = absurd (omega arith)
+digit-at n (suc width) zero l =
+    let others = digitsOf 10 (n / 10) width in
+    let place : suc width - 1 - 0 ≡ width = omega arith in
+    rw (
+      place,
+      getD-at others (digitOf (n % 10)) [] 0 width (digits-length 10 (n / 10) width),
+      lt-ltb (n % 10) 10 (mod-lt n (omega arith)),
+      div-one n,
+    )
+digit-at n (suc width) (suc k) l =
+    let others = digitsOf 10 (n / 10) width in
+    let place : suc width - 1 - suc k ≡ width - 1 - k = omega arith in
+    rw (
+      place,
+      List·getD-append others (digitOf (n % 10) ∷ []) 0 (width - 1 - k) (omega (arith, digits-length 10 (n / 10) width)),
+      digit-at (n / 10) width k (omega arith),
+      div-div-eq-div-mul n 10 (10 ^ k),
+      pow-succ' 10 k,
+    )
 
 -- enough divisions are enough
 within-enough : (a b n : ℕ) → n ≤ a → n ≤ b → widthWithin a n ≡ widthWithin b n
@@ -68,6 +94,15 @@ width-fewest n =
     let e : widthOf m - 1 ≡ suc (widthOf (m / 10) - 1) = omega (arith, width-more m l, width-some (m / 10)) in
     rw e (omega (arith, below (omega arith))))
     n n (omega arith)
+
+-- so the digit of 1 is among them, and that of each power of ten that the number reaches
+pub width-above : (n k : ℕ) → (k ≡ 0) ⊎ (10 ^ k ≤ n) → k < widthOf n
+width-above n k (inl e) = omega (arith, e, width-some n)
+width-above n k (inr h) = go (decLe (suc k) (widthOf n))
+  where
+    go : Dec (k < widthOf n) → k < widthOf n
+    go (yes l) = l
+    go (no l) = absurd (omega (arith, width-holds n, pow-le-pow-right {n = 10} (omega arith) {i = widthOf n} {j = k} (omega arith), h))
 
 -- a number below a power of ten has no more digits than its exponent
 pub width-at-most : (k n : ℕ) → n < 10 ^ suc k → widthOf n ≤ suc k

@@ -66,7 +66,7 @@ playLengthAnswerOf a = record { decline = numberOf (a .decline); bytes = a .byte
 abbrev pub planAnswerOf : Planned → PlanAnswer
 planAnswerOf a = record { decline = numberOf (a .decline); wait = a .wait }
 
--- the bank by its number, 1 or 2, and the reason by its own
+-- the bank by its number, 1 or 2, and the reason by its own (ours)
 abbrev pub compareAnswerOf : Comparison → CompareAnswer
 compareAnswerOf c = record { bank = pick (c .second) 2 1; reason = reasonNumberOf (c .reason) }
 

@@ -64,8 +64,8 @@ const EXPLANATIONS: [Explanation; Decline::ALL.len()] = [
                  first.",
     },
     Explanation {
-        when: "No call gives it any more: it was a flash read from a bank that the running \
-               operation targets, and such a read now waits.",
+        when: "It was a flash read from a bank that the running operation targets. Such a read \
+               now waits, and no call gives the number.",
         remedy: "nothing. A program that looks for it may leave that out.",
     },
     Explanation {
