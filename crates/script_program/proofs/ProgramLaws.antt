@@ -44,7 +44,7 @@ abbrev played : List ℕ → List ℕ → Playback
 played script buffer = playOf smallest [] startOf script buffer
 
 -- none of declines 1, 2 and 3 applies
-start-opens : commonDeclineOf smallest powerOn (length firstBank ∷ length erasedBank ∷ []) 0 ≡ Decline.Accepted
+pub start-opens : commonDeclineOf smallest powerOn (length firstBank ∷ length erasedBank ∷ []) 0 ≡ Decline.Accepted
 unfolding inRangeUpTo listedOf
 start-opens =
     opens smallest powerOn (length firstBank ∷ length erasedBank ∷ []) 0 refl (refl, (refl, tt)) (omega arith)

@@ -14,7 +14,7 @@ use Rattle.script_format.specs.declared.Record.{Record}
 abbrev pub maskZero : List ℕ
 maskZero = 0 ∷ 0 ∷ 0 ∷ 0 ∷ []
 
--- everything after a record: "kind (0 store, 1 step, 2 reset)". A kind above 2 is none of a script's
+-- everything after a record: "kind (0 store, 1 step, 2 reset)". A kind above 2 is none of a script's, and does as 2 (ours)
 unfoldable pub recordAfterOf : Geometry → List ℕ → State → Record → After
 recordAfterOf g sram s r =
     pick (eqb (r .kind) 0) (answeredOf s (storeOf g (s .device) (r .number) (r .form) (r .value)))
