@@ -5,7 +5,7 @@ use mathlib.Core.Path.{_≡_, refl, sym, ap, _∙_}
 use mathlib.Core.List.{List, [], _∷_}
 use mathlib.Core.Logic.{_⊎_, inl, inr}
 use Prim.Native.Nat.{ℕ, zero, suc, _+_, _-_, _*_, _/_, _%_, _^_, _≤_, _<_}
-use native.Mathlib.Nat.{add-zero, mul-le-mul, mod-lt, div-add-mod', div-lt-iff-lt-mul}
+use native.Mathlib.Nat.{mul-le-mul, mod-lt, div-add-mod', div-lt-iff-lt-mul}
 use native.Mathlib.Decide.{ℕ-discrete, decLe}
 use native.Mathlib.Omega.{arith}
 use lib.Arith.{digits-lt, digits-div, digits-mod}
@@ -14,9 +14,8 @@ use lib.ListN.{length, set}
 use lib.Seq.{ext-getD}
 use borrow.Author.Tests.{eq-eqb, ne-eqb, lt-ltb, le-ltb}
 use Rattle.words.specs.Quad.{wordAt, quadAt, putQuad, blankQuad}
-use Rattle.words.proofs.CaseLaws.{below-four}
 use Rattle.words.proofs.PickLaws.{pick-both}
-use Rattle.words.proofs.QuadLaws.{put-length, put-other-quad, put-same-quad}
+use Rattle.words.proofs.QuadLaws.{put-length, put-other-quad, put-same-quad, quad-word}
 use Rattle.geometry.specs.declared.banks.Geometry.{Geometry}
 use Rattle.geometry.specs.Banks.{InRange, pagesOf, pageQuadsOf, bootQuadsOf, bankWordsOf}
 use Rattle.sequence.specs.Sequence.{sequenceQuadOf, sequenceIndexOf, nextSequenceOf}
@@ -50,10 +49,6 @@ other-quad bank i quad j ne = put-other-quad bank i quad j (go (decLe i j))
     go : Dec (i ≤ j) → (j < i) ⊎ (i < j)
     go (yes l) = inr (omega arith)
     go (no l) = inl (omega arith)
-
--- a word of a quad
-quad-word : (bank : List ℕ) (j k : ℕ) → k < 4 → wordAt (quadAt bank j) k ≡ wordAt bank (4 * j + k)
-quad-word bank j = below-four _ (rw add-zero) refl refl refl
 
 -- banks with the same quads are equal
 by-quads : (n : ℕ) (one two : List ℕ) → length one ≡ 4 * n → length two ≡ 4 * n

@@ -24,7 +24,7 @@ use Rattle.device.specs.Record.{running}
 use Rattle.flash.specs.declared.effect.Effect.{Effect}
 use Rattle.flash.specs.Write.{writtenOf}
 use Rattle.flash.specs.Effect.{effect, effectOf}
-use Rattle.resets.specs.Reset.{tornOf, resetDeviceOf, tearOf, restartOf}
+use Rattle.resets.specs.Reset.{tornOf, whileRunning, resetDeviceOf, tearOf, restartOf}
 use Rattle.device.specs.State.{State, After, bankOf}
 use Rattle.controller.specs.Controller.{Sound}
 use Rattle.controller.proofs.WriteLaws.{by-reset}
@@ -246,7 +246,7 @@ module _ (u : Fixed) where
     pub running-tear : running d ≡ true → (j : ℕ) (words : List ℕ) → effectOf g (placed b d old new) (c .sram) ≡ effect false true (not b) j words
         → tearOf g (placed b d old new) (c .sram) (c .mask) ≡ placed b d old (putQuad new j (mergeQuadOf (c .mask) words (quadAt new j)))
     running-tear on j words writes =
-        ap (λ (e : Effect). writtenOf (placed b d old new) d (tornOf (placed b d old new) (c .mask) (e .write))) writes
+        ap (λ (e : Effect). writtenOf (placed b d old new) d (whileRunning d (tornOf (placed b d old new) (c .mask) (e .write)))) writes
         ∙ rw (on, bank-new b d old new) (put-placed b d old new d j (mergeQuadOf (c .mask) words (quadAt new j)))
 
   pub cut-leaves : (d : Device) (new : List ℕ) (place : ℕ) → Sound g (placed b d old new) → Phase u d new place → (c : Cut)

@@ -23,7 +23,7 @@ words-replicate zero a h v = lit< tt
 words-replicate (suc n) a h zero = h
 words-replicate (suc n) a h (suc v) = words-replicate n a h v
 
-words-set : (l : List ℕ) (i a : ℕ) → a < 2 ^ 32 → Words l → Words (set l i a)
+pub words-set : (l : List ℕ) (i a : ℕ) → a < 2 ^ 32 → Words l → Words (set l i a)
 words-set [] i a h words v = words v
 words-set (x ∷ l) zero a h words zero = h
 words-set (x ∷ l) zero a h words (suc v) = words (suc v)

@@ -27,7 +27,10 @@ use Rattle.common_declines.proofs.PossibleLaws.{possible}
 use Rattle.register_access.specs.Store.{hasFormOf, accepted, storeOf}
 use Rattle.start_up.specs.StartUp.{access, storesOf, keyStores}
 use Rattle.register_access.proofs.AcceptedLaws.{AtRest}
-use Rattle.controller.proofs.StoreEquations.{launch-clears, launch-begins, address-store, data-store, clear-wren, set-wren}
+use Rattle.reads.specs.Read.{same}
+use Rattle.reads.proofs.StepsLaws.{same-equal}
+use Rattle.launch.proofs.LaunchLaws.{launch-clears, launch-begins}
+use Rattle.controller.proofs.StoreEquations.{address-store, data-store, clear-wren, set-wren}
 use Rattle.controller.proofs.StoreEquations.{plain-op, launch-store, upper-store, keys-open, store-accepted}
 use Rattle.controller.proofs.StoreLaws.{store-possible}
 use Rattle.controller.proofs.RestLaws.{NoLaunch, NoLaunches, no-launch-rests, stores-rest}
@@ -213,14 +216,6 @@ readied-op c =
     equal-below 4 (readied c % 2 ^ 4) 0 (mod-lt (readied c) (lit< tt)) (lit< tt)
     (λ k l. bit-low 4 k (readied c) l ∙ readied-bit k c ∙ not-true _ (all-below (λ k. not (column k (bit k c))) 4 refl k l) ∙ sym (bit-zero k))
 
--- two tests with the same answer
-abbrev same : Bool → Bool → Bool
-same x y = pick x y (not y)
-
-same-true : (x y : Bool) → same x y ≡ true → x ≡ y
-same-true true y h = sym h
-same-true false y h = sym (not-true y h)
-
 -- bit k by bit j, which is x, and by what it is elsewhere
 known : (c j k : ℕ) {x y : Bool} → hasOf c (2 ^ j) ≡ x → bit k c ≡ y → bit k c ≡ pick (eqb k j) x y
 known c j k {x} {y} e other = go (eqb k j) refl
@@ -248,7 +243,7 @@ errors-cleared : (b : Bool) (c : ℕ) → Within 0xF0CF c → hasOf c WR ≡ fal
 errors-cleared b c inside idle boot program =
     equal-below 16 _ _ (lt-of-le-of-lt (within-high 0xF0CF _ (clear-within 0xF0CF (readied c) 0x3000 within)) (lit< tt))
     (pick-both (λ x. x + 0 < 2 ^ 16) b (lit< tt) (lit< tt))
-    (λ k l. rw (clear-bit, readied-bit k c, bits k) (same-true _ _ (all-below (leaves b (bit k c)) 16 (all-leave b (bit k c)) k l)))
+    (λ k l. rw (clear-bit, readied-bit k c, bits k) (same-equal _ _ (all-below (leaves b (bit k c)) 16 (all-leave b (bit k c)) k l)))
   where
     within : Within 0xF0CF (readied c)
     within = or-within 0xF0CF _ WREN (merge-within 0xF0CF 0x400F 0 _ (search) (clear-within 0xF0CF c WREN inside)) (search)

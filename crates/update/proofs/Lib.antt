@@ -33,3 +33,5 @@ pub mod TryLaws
 pub mod Tries
 pub mod OneTry
 pub mod ThreeTries
+pub mod StartSentences
+pub mod TurnSentences

@@ -3,13 +3,15 @@ use mathlib.Core.Path.{_≡_, refl, sym, ap, _∙_}
 use mathlib.Core.Bool.{Bool, true, false, not, _&&_}
 use mathlib.Core.Logic.{_⊎_, inl, inr}
 use mathlib.Core.List.{List, [], _∷_}
-use lib.ListN.{replicate}
+use lib.Dec.{leb}
+use lib.ListN.{length, replicate}
 use Prim.Native.Nat.{ℕ, _+_, _≤_}
 use Rattle.words.specs.Word.{pick}
 use Rattle.words.proofs.PickLaws.{pick-both}
 use Rattle.geometry.specs.declared.banks.Geometry.{Geometry}
+use Rattle.geometry.specs.Lent.{mostSram}
 use Rattle.words.specs.declared.decline.Decline.{Decline}
-use Rattle.words.specs.Decline.{acceptedOf}
+use Rattle.words.specs.Decline.{numberOf, acceptedOf}
 use Rattle.device.specs.State.{State, bankOf}
 use Rattle.map.specs.Windows.{locateOf}
 use Rattle.device.specs.Record.{running}
@@ -81,8 +83,17 @@ module _ (g : Geometry) (image : List ℕ) (s : State) (update : Update g s imag
       go (here srams e) = waits-past u (at s 0) begins srams p e sram address waits
       go (past h) = true-not-false (sym (waits-runs g (p .state) sram address waits) ∙ h .idle)
 
+  numbered : (t : Bool) → numberOf (pick t Decline.Idle Decline.Length) ≡ pick t 6 2
+  numbered true = refl
+  numbered false = refl
+
   declined : (p : Position) → Past u (at s 0) begins p → Declined g image p
-  declined p h = record { below = h .below; turns = declines u (at s 0) begins p h; stays = past-stays u (at s 0) begins p h }
+  declined p h =
+      record {
+        below = h .below;
+        turns = λ sram. ap numberOf (declines u (at s 0) begins p h sram) ∙ numbered (leb (length sram) mostSram);
+        stays = past-stays u (at s 0) begins p h;
+      }
 
   stuck : (B : List Move) → waitsIn g image (at s 0) B ≡ true → Declined g image (movesOf g image (at s 0) B)
   stuck B waits = declined _ (waits-in-past u (at s 0) begins (at s 0) (here [] refl) B waits)
@@ -100,7 +111,7 @@ module _ (g : Geometry) (image : List ℕ) (s : State) (update : Update g s imag
       waitsOf g (p .state) sram address ≡ true
       → let t = movedOf g image p (read sram address) .state in
       (StartsAgain g s image t × (bankOf t (not (old s)) ≡ newBankOf g s image → ⊥))
-      ⊎ ((startOf g t image .decline ≡ Decline.Sequence) × NewWhole g s image t)
+      ⊎ ((numberOf (startOf g t image .decline) ≡ 10) × NewWhole g s image t)
   start-again B sram address waits = go (past-starts u (at s 0) begins q there)
     where
       q : Position
@@ -111,7 +122,7 @@ module _ (g : Geometry) (image : List ℕ) (s : State) (update : Update g s imag
 
       go : Again u (at s 0) begins (q .state)
           → (StartsAgain g s image (q .state) × (bankOf (q .state) (not (old s)) ≡ newBankOf g s image → ⊥))
-          ⊎ ((startOf g (q .state) image .decline ≡ Decline.Sequence) × NewWhole g s image (q .state))
+          ⊎ ((numberOf (startOf g (q .state) image .decline) ≡ 10) × NewWhole g s image (q .state))
       go (inl (again, part)) =
           let boot = there .kept .1 .boot in
           let kept-old = past-kept u (at s 0) begins q there in
@@ -123,7 +134,7 @@ module _ (g : Geometry) (image : List ℕ) (s : State) (update : Update g s imag
             },
             part,
           )
-      go (inr (ten, (left-whole, runs))) = inr (ten, record { left = left-whole; runs = runs })
+      go (inr (ten, (left-whole, runs))) = inr (ap numberOf ten, record { left = left-whole; runs = runs })
 
   -- a read that waits is met where turns stand
   met : (B : List Move) (sram : List ℕ) (address : ℕ) → let p = movesOf g image (at s 0) B in waitsOf g (p .state) sram address ≡ true → Stands u p

@@ -15,7 +15,7 @@ use Rattle.sequence.specs.Sequence.{sequenceIndexOf, validOf}
 use Rattle.sequence.specs.declared.comparison.Comparison.{Comparison}
 use Rattle.sequence.specs.Comparison.{reasonNumberOf, compareOf}
 use Rattle.sequence.specs.Reasons.{ChosenBefore}
-use Rattle.sequence.proofs.ComparisonLaws.{reasons}
+use Rattle.sequence.proofs.ComparisonLaws.{comparisons}
 use Rattle.device.specs.Record.{running, bfswap}
 use Rattle.device.specs.State.{State, bankOf}
 use Rattle.reads.specs.Read.{same}
@@ -36,7 +36,7 @@ module _ (g : Geometry) where
   not-none : (t : State) (second : Bool) → validOf (wordIn (bankOf t second)) ≡ true
       → eqb (reasonNumberOf (comparisonOf g (t .one) (t .two) .reason)) 3 ≡ true → ⊥
   not-none t second valid none =
-      let (first, other) = and-both (not (validOf (wordIn (t .one)))) _ (sym (reasons (wordIn (t .one)) (wordIn (t .two)) .none) ∙ none) in
+      let (first, other) = and-both (not (validOf (wordIn (t .one)))) _ (sym (comparisons .meets (wordIn (t .one)) (wordIn (t .two)) .none) ∙ none) in
       go second valid (not-true _ first) (not-true _ other)
     where
       go : (second : Bool) → validOf (wordIn (bankOf t second)) ≡ true → validOf (wordIn (t .one)) ≡ false → validOf (wordIn (t .two)) ≡ false → ⊥
@@ -77,7 +77,7 @@ module _ (g : Geometry) where
   same-choice first other second before = go (validOf first) (validOf other) refl refl
     where
       now : ChosenBefore first other (compareOf first other .second)
-      now = reasons first other .chosen
+      now = comparisons .meets first other .chosen
 
       go : (f o : Bool) → validOf first ≡ f → validOf other ≡ o → compareOf first other .second ≡ second
       go true true f o = now .both f o ∙ sym (before .both f o)

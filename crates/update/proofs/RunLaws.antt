@@ -139,10 +139,20 @@ module _ (u : Fixed) (s : State) where
       turns-follow (turnedOf g image p sram) (stands-turn u p stands sram) srams (turn-follows p stands sram follows)
 
 -- after any list of turns of an accepted update the state is the run of the first `place` actions
-pub turns-run : (g : Geometry) (s : State) (image : List ℕ) → Update g s image → (srams : List (List ℕ))
+turns-run : (g : Geometry) (s : State) (image : List ℕ) → Update g s image → (srams : List (List ℕ))
     → afterTurns g s image srams ≡ runOf g s (operationsOf (take (placeAfter g s image srams) (actionsOf g image (lowerWordOf g s))))
 unfolding firstRun
 turns-run g s image update srams = turns-follow (startFixed g s image update (old s) refl) s (at s 0) (start-stands g s image update (old s) refl) srams refl
+
+-- so lists of turns that are at one place are in one state, whichever turns were declined and whatever SRAMs they had
+pub one-position : (g : Geometry) (s : State) (image : List ℕ) → Update g s image → (A B : List (List ℕ))
+    → placeAfter g s image A ≡ placeAfter g s image B → turnsOf g image (at s 0) A ≡ turnsOf g image (at s 0) B
+one-position g s image update A B place =
+    let state : afterTurns g s image A ≡ afterTurns g s image B =
+    turns-run g s image update A
+    ∙ ap (λ (n : ℕ). runOf g s (operationsOf (take n (actionsOf g image (lowerWordOf g s))))) place
+    ∙ sym (turns-run g s image update B) in
+    λ i. at (state i) (place i)
 
 -- and the action of its place is the list's: t is what it was at the start
 pub turns-action : (g : Geometry) (s : State) (image : List ℕ) → Update g s image → (srams : List (List ℕ)) → placeAfter g s image srams < totalOf g

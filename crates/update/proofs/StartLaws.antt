@@ -26,6 +26,7 @@ use Rattle.protection.specs.Protection.{pwpOf}
 use Rattle.common_declines.specs.CommonDecline.{commonDeclineOf}
 use Rattle.common_declines.proofs.CommonDeclineLaws.{ready, opens}
 use Rattle.reads.specs.Read.{same}
+use Rattle.reads.proofs.StepsLaws.{same-equal, equal-same}
 use Rattle.resets.specs.Reset.{comparedOf}
 use Rattle.device.specs.State.{State, bankOf}
 use Rattle.controller.specs.Controller.{Sound}
@@ -40,17 +41,6 @@ use Rattle.update.proofs.PlacedLaws.{placed, replaced, both-placed, eit
 use Rattle.update.proofs.Blocks.{Fixed, Begins, Losing, Stands}
 use Rattle.update.proofs.Blocks.Block.{prologue}
 use Rattle.update.proofs.PhaseLaws.{enters}
-
--- two truth values that are the same
-same-true : (a c : Bool) → same a c ≡ true → a ≡ c
-same-true true true h = refl
-same-true true false h = sym h
-same-true false true h = h
-same-true false false h = refl
-
-same-self : (a c : Bool) → a ≡ c → same a c ≡ true
-same-self a true e = rw e
-same-self a false e = rw e
 
 -- what an accepted start tells
 pub record Starts (g : Geometry) (s : State) (image : List ℕ) : Type 0 where
@@ -85,8 +75,8 @@ starts g s image h =
       image-long = opened .lent .banks .1 .1 .0;
       idle = s1 .0;
       valid = c0 .0;
-      keeps = same-true _ _ (c1 .0);
-      agree = same-true _ _ (c2 .0);
+      keeps = same-equal _ _ (c1 .0);
+      agree = same-equal _ _ (c2 .0);
       safe = c2 .1;
       more = s3 .0;
       lock = u .0;
@@ -209,10 +199,10 @@ module _ (u : Fixed) (f : Device) (new : List ℕ) where
       lower-ok = ap validOf lower-is ∙ valid
 
       keeps : resetKeepsOf g (placed b f old new) ≡ true
-      keeps = same-self _ _ (compared-placed b f old new g ∙ losing .loses .chosen ∙ sym (started .boot))
+      keeps = equal-same _ _ (compared-placed b f old new g ∙ losing .loses .chosen ∙ sym (started .boot))
 
       agree : swapsAgreeOf (placed b f old new) ≡ true
-      agree = same-self _ _ (started .program ∙ sym (started .boot))
+      agree = equal-same _ _ (started .program ∙ sym (started .boot))
 
       safe : otherSafeOf g (placed b f old new) ≡ true
       safe = ap (λ (w : ℕ). validOf w || clashOf w) (other-placed b f old new g (started .boot)) ∙ losing .loses .safe

@@ -53,11 +53,11 @@ merge-ones mask = equal-by-bits _ _ (λ k. merge-bit k mask allOnes allOnes ∙ 
 halves-bit : (w k : ℕ) → k < 16 → bit k (bitAnd (tseqOf w) (cseqOf w)) ≡ (bit k w && bit (16 + k) w)
 halves-bit w k l = bit-and k (tseqOf w) (cseqOf w) ∙ rw (bit-low 16 k w l, bit-high 16 k w)
 
-clash-bits : (w : ℕ) → clashOf w ≡ false → (k : ℕ) → k < 16 → (bit k w && bit (16 + k) w) ≡ false
+pub clash-bits : (w : ℕ) → clashOf w ≡ false → (k : ℕ) → k < 16 → (bit k w && bit (16 + k) w) ≡ false
 unfolding clashOf
 clash-bits w h k l = sym (halves-bit w k l) ∙ ap (bit k) (eqb-true _ 0 (not-false _ h)) ∙ bit-zero k
 
-no-clash : (w : ℕ) → ((k : ℕ) → k < 16 → (bit k w && bit (16 + k) w) ≡ false) → clashOf w ≡ false
+pub no-clash : (w : ℕ) → ((k : ℕ) → k < 16 → (bit k w && bit (16 + k) w) ≡ false) → clashOf w ≡ false
 unfolding clashOf
 no-clash w each =
     ap not

@@ -29,6 +29,6 @@ pub record LargerTotals : Type 0 where
   -- a place, a total, the bytes of the records of all its actions and a step number have 4 bytes
   pub places : (g : Geometry) → inRangeOf g ≡ true → 8 * totalOf g < 2 ^ 32
   pub steps : (g : Geometry) → inRangeOf g ≡ true → (op : ℕ) → lengthOf g op < 2 ^ 32
-  -- "Scripts and places already stored keep their bytes and their meaning": every action of an update has its record
+  -- "a value still has 4 bytes": every action of an update has its record
   pub records : (g : Geometry) → inRangeOf g ≡ true → (image : List ℕ) → Words image → (w place : ℕ) → place < totalOf g
       → Recorded (actionAtOf g image w place)

@@ -13,3 +13,5 @@ pub mod Moves
 pub mod Tries
 pub mod OneTry
 pub mod ThreeTries
+pub mod StartSentences
+pub mod TurnSentences

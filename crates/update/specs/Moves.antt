@@ -7,7 +7,7 @@ use mathlib.Core.List.{List, [], _∷_}
 use lib.Dec.{leb}
 use lib.ListN.{length, replicate}
 use Rattle.words.specs.Word.{pick}
-use Rattle.words.specs.declared.decline.Decline.{Decline}
+use Rattle.words.specs.Decline.{numberOf, acceptedOf}
 use Rattle.geometry.specs.declared.banks.Geometry.{Geometry}
 use Rattle.geometry.specs.Lent.{mostSram}
 use Rattle.map.specs.Windows.{locateOf}
@@ -21,7 +21,6 @@ use Rattle.update.specs.Turn.{turnOf}
 use Rattle.update.specs.PowerFail.{Position, at, turnedOf, turnsOf, afterTurns, placeAfter, Cut, restarted, Restarts}
 use Rattle.update.specs.PowerFail.{old, Runs, newBankOf, SameBanks, OldKept, Update, Claims}
 use Rattle.update.specs.Start.{startOf}
-use Rattle.words.specs.Decline.{acceptedOf}
 
 -- a turn with its SRAM; a flash read of an address, with its SRAM
 pub data Move : Type 0 where
@@ -78,7 +77,7 @@ pub record ByTurns (g : Geometry) (s : State) (image : List ℕ) (t : State) (le
 pub record Declined (g : Geometry) (image : List ℕ) (p : Position) : Type 0 where
   pub below : p .place < totalOf g
   -- "a turn whose step a read has done is declined as 6 and keeps its place"; as 2 where its SRAM is too long
-  pub turns : (sram : List ℕ) → turnOf g (p .state) image sram (p .place) .decline ≡ pick (leb (length sram) mostSram) Decline.Idle Decline.Length
+  pub turns : (sram : List ℕ) → numberOf (turnOf g (p .state) image sram (p .place) .decline) ≡ pick (leb (length sram) mostSram) 6 2
   pub stays : (moves : List Move) → movesOf g image p moves ≡ p
 
 -- the same start, from t and without a reset: an update again, of the same old bank, which ends as the first one would have
@@ -119,7 +118,7 @@ pub record MovesFail (g : Geometry) (image : List ℕ) : Type 0 where
       waitsOf g (p .state) sram address ≡ true
       → let t = movedOf g image p (read sram address) .state in
       (StartsAgain g s image t × (bankOf t (not (old s)) ≡ newBankOf g s image → ⊥))
-      ⊎ ((startOf g t image .decline ≡ Decline.Sequence) × NewWhole g s image t)
+      ⊎ ((numberOf (startOf g t image .decline) ≡ 10) × NewWhole g s image t)
   -- "each step inside one is a place where the supply may fail": after n steps of a read the state is what n single steps leave, and after
   -- as many as remain it is what the read leaves
   pub inside-steps : (s : State) (sram : List ℕ) (address n : ℕ) → waitsOf g s sram address ≡ true

@@ -65,12 +65,13 @@ abbrev pub Formed : Action → Type 0
 Formed (Store r form value) = hasFormOf r form ≡ true
 Formed Step = Unit {0}
 
--- "a turn whose action is declined (5 or 6) gives that number and keeps its place"
+-- "a turn whose action is declined (5 or 6) gives that number and keeps its place"; it gives no event (ours)
 unfoldable pub actOf : Geometry → State → List ℕ → ℕ → Action → Turning
 actOf g s sram place a =
     pick (acceptedOf (actionDeclineOf (s .device) a)) (performed place (performOf g s sram a)) (turning (actionDeclineOf (s .device) a) false s place false)
 
--- "At the total, and only there, it says done and changes nothing."
+-- "At the total, and only there, it says done and changes nothing." Done or declined it gives no event, and declined by another
+-- number than 5 or 6 it keeps its place, too (ours)
 unfoldable pub turnOf : Geometry → State → List ℕ → List ℕ → ℕ → Turning
 turnOf g s image sram place =
     pick (acceptedOf (turnDeclineOf g s image (length sram) place))
