@@ -24,7 +24,8 @@ lowerBankDeclineOf g d one two = commonDeclineOf g d (one ∷ two ∷ []) 0
 abbrev pub lowerOf : {A : Type 0} → Device → A → A → A
 lowerOf d one two = pick (bfswap d) two one
 
--- "the bank on the lower alias is handed back as the lent bank itself": the same reference, and not a copy
+-- "the bank on the lower alias is handed back as the lent bank itself": the same reference, and not a copy. Where it is declined nothing is said
+-- of where the empty part points (left free; ours points to the first word of bank 1)
 abbrev pub LentItself : Geometry → Device → RefT (List ℕ) → RefT (List ℕ) → RefT (List ℕ) → Type 0
 LentItself g d one two r =
     acceptedOf (lowerBankDeclineOf g d (length (one .now)) (length (two .now))) ≡ true
@@ -46,7 +47,8 @@ pagePartOf g bank page =
     (pageAt g bank page)
     []
 
--- "as that part of the bank": from the byte where the page starts in the lent bank, and not a copy
+-- "as that part of the bank": from the byte where the page starts in the lent bank, and not a copy. Where it is declined nothing is said of where
+-- the empty part points (left free; ours points to the first word of the bank)
 abbrev pub PartItself : Geometry → RefT (List ℕ) → ℕ → RefT (List ℕ) → Type 0
 PartItself g bank page r =
     acceptedOf (pageDeclineOf g (length (bank .now)) page) ≡ true

@@ -3,6 +3,7 @@ use mathlib.Core.Path.{_≡_, refl, sym, _∙_}
 use mathlib.Core.Bool.{Bool, true, false}
 use mathlib.Core.List.{List}
 use Prim.Native.Nat.{ℕ}
+use Rattle.words.specs.Word.{pick}
 use Rattle.words.specs.declared.decline.Decline.{Decline}
 use Rattle.words.specs.Decline.{numberOf, acceptedOf, firstOf}
 use Rattle.words.proofs.BitLaws.{true-not-false}
@@ -29,10 +30,9 @@ module _ (g : Geometry) (d : Device) (lengths : List ℕ) (sram : ℕ) where
   unfolding commonDeclineOf lentDeclineUpTo
   used u = rw (u .listed, fitted g lengths sram (u .fits), u .possible)
 
-  -- whatever declines come after them
-  pub common-first : (other : Decline) → CommonDeclines g d lengths sram (numberOf (firstOf (commonDeclineOf g d lengths sram) other))
+  pub common-meets : CommonDeclines g d lengths sram (numberOf (commonDeclineOf g d lengths sram))
   unfolding commonDeclineOf lentDeclineUpTo
-  common-first other =
+  common-meets =
       record {
         lent = record { geometry = λ out. rw out; lengths-differ = λ listed unfit. rw (listed, go (lengthsFitOf g lengths sram) refl unfit) };
         impossible = λ listed f not-possible. rw (listed, fitted g lengths sram f, not-possible);
@@ -41,6 +41,27 @@ module _ (g : Geometry) (d : Device) (lengths : List ℕ) (sram : ℕ) where
       go : (t : Bool) → lengthsFitOf g lengths sram ≡ t → (Fit g lengths sram → ⊥) → lengthsFitOf g lengths sram ≡ false
       go true e unfit = absurd (unfit (fit g lengths sram e))
       go false e unfit = e
+
+  -- where none of them applies, they ask for no number
+  pub common-none : Usable g d lengths sram → (number : ℕ) → CommonDeclines g d lengths sram number
+  common-none u number =
+      record {
+        lent =
+            record {
+              geometry = λ out. true-not-false (sym (u .listed) ∙ out);
+              lengths-differ = λ listed unfit. absurd (unfit (u .fits));
+            };
+        impossible = λ listed f not-possible. true-not-false (sym (u .possible) ∙ not-possible);
+      }
+
+  -- whatever declines come after them
+  pub common-first : (other : Decline) → CommonDeclines g d lengths sram (numberOf (firstOf (commonDeclineOf g d lengths sram) other))
+  common-first other = go (acceptedOf (commonDeclineOf g d lengths sram)) refl
+    where
+      go : (t : Bool) → acceptedOf (commonDeclineOf g d lengths sram) ≡ t
+          → CommonDeclines g d lengths sram (numberOf (pick t other (commonDeclineOf g d lengths sram)))
+      go true on = common-none (usable on) _
+      go false off = common-meets
 
   -- where one of them applies, no other number meets them
   pub common-fixes : (number : ℕ) → CommonDeclines g d lengths sram number → acceptedOf (commonDeclineOf g d lengths sram) ≡ false

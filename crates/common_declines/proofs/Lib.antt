@@ -2,3 +2,4 @@ pub mod PossibleLaws
 pub mod CommonDeclineLaws
 pub mod TableLaws
 pub mod DeclineLaws
+pub mod PossibleDevice

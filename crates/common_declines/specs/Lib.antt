@@ -1,2 +1,3 @@
 pub mod Possible
 pub mod CommonDecline
+pub mod PossibleDevice

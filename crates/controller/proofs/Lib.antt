@@ -9,7 +9,7 @@ pub mod ReadLaws
 pub mod KeepLaws
 pub mod RunLaws
 pub mod WaitLaws
-pub mod TargetLaws
+pub mod FlashReads
 pub mod Waits
 pub mod RestLaws
 pub mod StartUpLaws

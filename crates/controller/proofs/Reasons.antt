@@ -10,7 +10,7 @@ use Rattle.geometry.specs.declared.banks.Geometry.{Geometry}
 use Rattle.sequence.specs.declared.comparison.Reason.{Reason}
 use Rattle.sequence.specs.declared.comparison.Comparison.{Comparison}
 use Rattle.sequence.specs.Sequence.{sequenceIndexOf}
-use Rattle.sequence.specs.Comparison.{reasonNumberOf, comparison}
+use Rattle.sequence.specs.Comparison.{comparison}
 use Rattle.sequence.specs.Reasons.{Reasons}
 use Rattle.sequence.proofs.ComparisonLaws.{comparisons, one-reason}
 use Rattle.device.specs.Record.{bfswap}

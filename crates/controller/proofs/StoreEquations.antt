@@ -1,4 +1,4 @@
--- What each store of an update does to a device at rest, as one equation each, and what the launch does.
+-- What each store of an update does to a device at rest, as one equation each.
 -- Assumes nothing.
 use mathlib.Core.Path.{_≡_, refl, sym, ap, _∙_}
 use mathlib.Core.Bool.{Bool, true, false, or-true}
@@ -6,7 +6,6 @@ use Prim.Native.Nat.{ℕ, _+_, _≤_, _<_}
 use native.Mathlib.Omega.{arith}
 use lib.ListN.{set}
 use lib.Bits.{bitOr}
-use borrow.Author.Tests.{le-ltb, ne-eqb}
 use Rattle.words.specs.Word.{pick, bit, hasOf, mergeOf, clearOf}
 use Rattle.words.proofs.CaseLaws.{below-four}
 use Rattle.words.proofs.BitLaws.{bit-or, clear-bit, has-bit, bit-above}
@@ -16,10 +15,9 @@ use Rattle.words.specs.Decline.{acceptedOf}
 use Rattle.device.specs.declared.record.Device.{Device}
 use Rattle.launch.specs.declared.launch.Launched.{Launched}
 use Rattle.device.specs.declared.answer.Answer.{Answer}
-use Rattle.device.specs.Registers.{WR, WREN, WRERR, LVDERR, NVMOP, LBWPULOCK, UBWPULOCK}
+use Rattle.device.specs.Registers.{WR, WREN, NVMOP, LBWPULOCK, UBWPULOCK}
 use Rattle.device.specs.Builders.{withCon, withLaunched, withAddress, withData, withBwp}
-use Rattle.device.specs.Record.{registerOf, isOpen, opOf, operandsOf}
-use Rattle.nvmop.specs.Operation.{beginsOf}
+use Rattle.device.specs.Record.{registerOf, isOpen}
 use Rattle.common_declines.specs.Possible.{restingOf}
 use Rattle.register_fields.specs.Fields.{wantedOf, keyNextOf, conTakesOf, bwpTakesOf, lowerTakesOf}
 use Rattle.launch.specs.Launch.{launched, launchOf}
@@ -29,24 +27,6 @@ use Rattle.start_up.specs.StartUp.{storesOf, keyStores}
 use Rattle.register_fields.proofs.FieldLaws.{con-takes-wren, con-takes-enabled, con-takes-shut}
 use Rattle.register_access.proofs.AcceptedLaws.{AtRest, rest-opens}
 use Rattle.common_declines.proofs.PossibleLaws.{possible, possible-test, resting, same-rows}
-
--- ---- the launch
-module _ (g : Geometry) (d : Device) where
-  pub launch-clears : opOf d ≡ 0 → launchOf g d ≡ launched (clearOf (d .nvmcon .0) (WRERR + LVDERR)) false (d .launched)
-  unfolding launchOf
-  launch-clears op = rw op
-
-  pub launch-begins : 2 ≤ opOf d → opOf d ≤ 7 → hasOf (d .nvmcon .0) (WRERR + LVDERR) ≡ false → beginsOf g d ≡ true
-      → launchOf g d ≡ launched (bitOr (d .nvmcon .0) (WR + WRERR)) false (operandsOf d)
-  unfolding launchOf
-  launch-begins lo hi clean begins =
-      rw (
-        begins,
-        ne-eqb (opOf d) 0 (λ e. omega arith),
-        clean,
-        le-ltb (opOf d) 2 lo,
-        le-ltb 7 (opOf d) hi,
-      )
 
 module _ (g : Geometry) (d : Device) (rest : AtRest g d) where
   -- a store at rest is carried out

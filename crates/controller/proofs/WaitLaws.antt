@@ -9,13 +9,14 @@ use lib.Dec.{eqb}
 use lib.ListN.{length, replicate}
 use Rattle.words.specs.Word.{pick, bit, hasOf, clearOf}
 use Rattle.words.specs.Decline.{acceptedOf}
-use Rattle.words.proofs.PickLaws.{and-both}
+use Rattle.words.proofs.PickLaws.{and-both, pick-both}
 use Rattle.words.proofs.BitLaws.{true-not-false, clear-bit, has-bit}
 use Rattle.geometry.specs.declared.banks.Geometry.{Geometry}
 use Rattle.geometry.specs.Banks.{inRangeOf}
 use Rattle.geometry.proofs.SizeLaws.{in-range}
 use Rattle.map.specs.Windows.{locateOf}
 use Rattle.device.specs.declared.record.Device.{Device}
+use Rattle.device.specs.declared.answer.Answer.{Answer}
 use Rattle.device.specs.Registers.{WR, WRERR}
 use Rattle.device.specs.Builders.{withCon}
 use Rattle.device.specs.Record.{running, bfswap, pfswap, opOf}
@@ -97,6 +98,23 @@ ended-idle d mask on =
     ∙ clear-bit 15 (d .nvmcon .0) mask
     ∙ ap (λ (t : Bool). bit 15 (d .nvmcon .0) && not t) on
     ∙ and-false (bit 15 (d .nvmcon .0))
+
+-- where WR falls it gives an event
+pub last-event : (g : Geometry) (s : State) (sram : List ℕ) → acceptedOf (stepAnswerOf g s sram) ≡ true → running (s .device) ≡ true
+    → running (stepOf g s sram .state .device) ≡ false → stepOf g s sram .event ≡ true
+unfolding advanceOf
+last-event g s sram ok on =
+    by-step g s sram (λ a. running (a .state .device) ≡ false → a .event ≡ true)
+    (λ on′.
+    pick-both P (effectOf g s sram .aborts) (λ idle. refl)
+    (pick-both P (eqb (d .step + 1) (lengthOf g (opOf d))) (λ idle. refl) (λ idle. true-not-false (sym on ∙ idle))))
+    (λ off. true-not-false (sym ok ∙ off))
+  where
+    d : Device
+    d = s .device
+
+    P : Answer → Type 0
+    P a = running (a .device) ≡ false → a .event ≡ true
 
 -- while it goes on at most one step less is left
 pub one-less : (g : Geometry) (s : State) (sram : List ℕ) (n : ℕ) → suc n ≤ remainingOf g (s .device)

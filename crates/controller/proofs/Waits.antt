@@ -1,24 +1,21 @@
 -- Each step of a read that waits is a single step: its quad is the only one that it writes, the last gives the event. Assumes nothing.
-use mathlib.Core.Path.{_≡_, refl, sym, ap, subst, _∙_}
-use mathlib.Core.Bool.{Bool, true, false, not, _&&_}
+use mathlib.Core.Path.{_≡_, refl, sym, ap, _∙_}
+use mathlib.Core.Bool.{Bool, true, false, not}
 use mathlib.Core.Logic.{_⊎_, inl, inr}
 use mathlib.Core.List.{List, [], _∷_}
-use Prim.Native.Nat.{ℕ, zero, suc, _+_, _-_, _*_, _%_, _≤_, _<_}
-use native.Mathlib.Decide.{ℕ-discrete, decLt}
+use Prim.Native.Nat.{ℕ, zero, suc, _+_, _*_, _≤_, _<_}
 use native.Mathlib.Omega.{arith}
 use lib.Dec.{eqb}
 use lib.ListN.{length, replicate}
-use borrow.Author.Tests.{not-true, eqb-true, eq-eqb, ne-eqb, le-leb}
+use borrow.Author.Tests.{not-true, eqb-true, le-leb}
 use Rattle.words.specs.Word.{pick, hasOf, clearOf}
 use Rattle.words.specs.Quad.{wordAt}
 use Rattle.words.specs.declared.decline.Decline.{Decline}
 use Rattle.words.specs.Decline.{numberOf, acceptedOf, firstOf}
-use Rattle.words.proofs.Numbers.{numbers}
 use Rattle.words.proofs.PickLaws.{pick-both, and-both}
 use Rattle.words.proofs.BitLaws.{true-not-false}
 use Rattle.common_declines.specs.Possible.{runningOf, possibleOf}
 use Rattle.common_declines.proofs.PossibleLaws.{possible}
-use Rattle.common_declines.proofs.DeclineLaws.{usable, used, common-first, common-fixes}
 use Rattle.geometry.specs.declared.banks.Geometry.{Geometry}
 use Rattle.geometry.specs.Banks.{inRangeOf, pageWordsOf, pageQuadsOf}
 use Rattle.geometry.specs.Lent.{mostSram, lengthsFitOf, lentDeclineUpTo}
@@ -29,24 +26,25 @@ use Rattle.device.specs.declared.answer.Answer.{Answer}
 use Rattle.device.specs.Registers.{WR, WRERR}
 use Rattle.device.specs.Builders.{withCon}
 use Rattle.device.specs.Record.{running, opOf}
-use Rattle.device.specs.State.{State, bankOf, after}
+use Rattle.device.specs.State.{State, bankOf}
 use Rattle.nvmop.specs.Operation.{lengthOf}
-use Rattle.common_declines.specs.CommonDecline.{commonDeclineOf, CommonDeclines}
+use Rattle.common_declines.specs.CommonDecline.{commonDeclineOf}
 use Rattle.flash.specs.Effect.{stepAtOf, effectOf}
 use Rattle.flash.specs.Step.{advanced, endedOf, advanceOf, stepAnswerOf, stepOf}
 use Rattle.flash.proofs.AcceptedLaws.{runs}
-use Rattle.reads.specs.Read.{secondAtOf, freeOf, readableOf, flashReadDeclineOf, Stepped, stepped, stepsOf, remainingOf, readAnswerOf, waitsOf, readyOf}
-use Rattle.reads.specs.Read.{wordReadOf, Reading, reading, flashReadOf}
+use Rattle.reads.specs.Read.{secondAtOf, freeOf, Stepped, stepped, stepsOf, remainingOf, readAnswerOf, waitsOf}
+use Rattle.reads.specs.Read.{flashReadOf}
 use Rattle.reads.proofs.AcceptedLaws.{read-ready}
 use Rattle.reads.proofs.StepsLaws.{worked-on}
-use Rattle.controller.specs.Controller.{runOf, Sound, Outside, Keeps, stepSecondOf, stepQuadOf}
+use Rattle.controller.specs.Controller.{runOf, Sound, Outside, stepSecondOf, stepQuadOf}
 use Rattle.controller.specs.Controller.Operation.{flashRead, step}
-use Rattle.controller.specs.Waits.{Untouched, OffPage, LeftBySteps, Waited, Busy, Readable, Reads, Waits}
+use Rattle.controller.specs.FlashReads.{Stalls}
+use Rattle.controller.specs.Waits.{Untouched, OffPage, LeftBySteps, Waited, Waits}
+use Rattle.controller.proofs.FlashReads.{lengthsOf, addressed, same-number, stalled, stalls}
 use Rattle.controller.proofs.WriteLaws.{by-step, by-advance, step-writes, one-quad}
 use Rattle.controller.proofs.KeepLaws.{cleared-bit, keeps}
 use Rattle.controller.proofs.RunLaws.{run-sound}
-use Rattle.controller.proofs.TargetLaws.{busy, target}
-use Rattle.controller.proofs.WaitLaws.{step-accepted, ended-idle, fewer, read-ends}
+use Rattle.controller.proofs.WaitLaws.{step-accepted, ended-idle, last-event, fewer, read-ends}
 
 -- ---- one step of a running operation
 -- where WR stays set it raises the step number and changes nothing else of the device
@@ -60,23 +58,6 @@ next-device g s sram ok =
     (λ runs. true-not-false (sym runs ∙ ended-idle d WR refl)) (λ runs. true-not-false (sym runs ∙ ended-idle d (WR + WRERR) refl)) (λ runs. refl)
     (effectOf g s sram .aborts))
     (λ off. true-not-false (sym ok ∙ off))
-
--- where WR falls it gives an event
-last-event : (g : Geometry) (s : State) (sram : List ℕ) → acceptedOf (stepAnswerOf g s sram) ≡ true → running (s .device) ≡ true
-    → running (stepOf g s sram .state .device) ≡ false → stepOf g s sram .event ≡ true
-unfolding advanceOf
-last-event g s sram ok on =
-    by-step g s sram (λ a. running (a .state .device) ≡ false → a .event ≡ true)
-    (λ on′.
-    pick-both P (effectOf g s sram .aborts) (λ idle. refl)
-    (pick-both P (eqb (d .step + 1) (lengthOf g (opOf d))) (λ idle. refl) (λ idle. true-not-false (sym on ∙ idle))))
-    (λ off. true-not-false (sym ok ∙ off))
-  where
-    d : Device
-    d = s .device
-
-    P : Answer → Type 0
-    P a = running (a .device) ≡ false → a .event ≡ true
 
 -- where WR stays set it gives none
 more-event : (g : Geometry) (s : State) (sram : List ℕ) → running (stepOf g s sram .state .device) ≡ true → stepOf g s sram .event ≡ false
@@ -305,184 +286,15 @@ waited g s sram address waits =
         apart (inl low) = inr (omega arith)
         apart (inr high) = inl (omega arith)
 
--- ---- what a read answers
-abbrev lengthsOf : State → List ℕ
-lengthsOf s = length (s .one) ∷ length (s .two) ∷ []
-
+-- ---- which reads wait
 module _ (g : Geometry) (s : State) (sram : List ℕ) (address : ℕ) where
-  abbrev number : ℕ
-  number = numberOf (flashReadOf g s sram address .after .decline)
+  waits-stalled : acceptedOf (readAnswerOf g s sram address) ≡ true → Stalls g (s .device) address → waitsOf g s sram address ≡ true
+  waits-stalled ok b = rw (ok, stalled g s sram address ok b)
 
-  -- 1 to 3, and the address after them
-  abbrev common : Decline
-  common = commonDeclineOf g (s .device) (lengthsOf s) (length sram)
-
-  abbrev addressed : Decline
-  addressed = pick (readableOf g address) Decline.Accepted Decline.Address
-
-  -- the number is that of the declines
-  same-number : number ≡ numberOf (firstOf common addressed)
-  unfolding flashReadOf flashReadDeclineOf
-  same-number = go (firstOf common addressed) (acceptedOf (firstOf common addressed)) refl
-    where
-      go : (d : Decline) (t : Bool) → acceptedOf d ≡ t
-          → numberOf
-          (pick t
-          (let r = readyOf g s sram address in reading (after Decline.Accepted (r .state) (r .event)) (wordReadOf g (r .state) address))
-          (reading (after d s false) 0) .after .decline)
-          ≡ numberOf d
-      go d true on = sym (eqb-true _ _ on)
-      go d false off = refl
-
-  accepted-read : number ≡ 0 → acceptedOf (readAnswerOf g s sram address) ≡ true
-  unfolding flashReadDeclineOf
-  accepted-read h = eq-eqb _ _ (sym same-number ∙ h)
-
-  declined-read : (number ≡ 0 → ⊥) → acceptedOf (readAnswerOf g s sram address) ≡ false
-  unfolding flashReadDeclineOf
-  declined-read h = ne-eqb _ _ (λ e. h (same-number ∙ e))
-
-  -- after 1 to 3 the address decides
-  by-address : Readable g s sram → number ≡ numberOf addressed
-  by-address u = same-number ∙ rw (used g (s .device) (lengthsOf s) (length sram) u)
-
-  not-readable : (locateOf g address .inside ≡ true → address % 4 ≡ 0 → ⊥) → readableOf g address ≡ false
-  not-readable off = go (locateOf g address .inside) refl (eqb (address % 4) 0) refl
-    where
-      go : (a : Bool) → locateOf g address .inside ≡ a → (b : Bool) → eqb (address % 4) 0 ≡ b → readableOf g address ≡ false
-      go true ea true eb = absurd (off ea (eqb-true _ _ eb))
-      go true ea false eb = rw (ea, eb)
-      go false ea b eb = rw ea
-
-  is-readable : locateOf g address .inside ≡ true → address % 4 ≡ 0 → readableOf g address ≡ true
-  is-readable inside aligned = rw (inside, eq-eqb _ _ aligned)
-
-  declined : (number ≡ 0 → ⊥) → let r = flashReadOf g s sram address in (r .after .state ≡ s) × ((r .after .event ≡ false) × (r .word ≡ 0))
-  unfolding flashReadOf
-  declined h = rw (declined-read h) (refl, (refl, refl))
-
-  word-there : number ≡ 0 → flashReadOf g s sram address .word ≡ wordReadOf g (flashReadOf g s sram address .after .state) address
-  unfolding flashReadOf
-  word-there h = rw (accepted-read h)
-
-  -- ---- which reads wait
-  waits-busy : acceptedOf (readAnswerOf g s sram address) ≡ true → Busy g (s .device) address → waitsOf g s sram address ≡ true
-  waits-busy ok b = busy g s sram address ok (b .runs) (b .target)
-
-  busy-waits : waitsOf g s sram address ≡ true → (acceptedOf (readAnswerOf g s sram address) ≡ true) × Busy g (s .device) address
-  busy-waits w =
-      let (ok, rest) = and-both (acceptedOf (readAnswerOf g s sram address)) _ w in
-      let (on, there) = target g s sram address w in
-      (ok, record { runs = on; target = there })
-
-  kept : number ≡ 0 → (Busy g (s .device) address → ⊥)
-      → (flashReadOf g s sram address .after .state ≡ s) × (flashReadOf g s sram address .after .event ≡ false)
-  unfolding flashReadOf
-  kept h free = go (freeOf g (s .device) (secondAtOf (s .device) (locateOf g address))) refl
-    where
-      go : (f : Bool) → freeOf g (s .device) (secondAtOf (s .device) (locateOf g address)) ≡ f
-          → (flashReadOf g s sram address .after .state ≡ s) × (flashReadOf g s sram address .after .event ≡ false)
-      go true e = rw (accepted-read h, e) (refl, refl)
-      go false e = absurd (free (busy-waits (rw (accepted-read h, e)) .1))
-
-  reads : Reads g s sram address (flashReadOf g s sram address)
-  reads =
-      record {
-        declines = subst (CommonDeclines g (s .device) (lengthsOf s) (length sram)) (sym same-number)
-            (common-first g (s .device) (lengthsOf s) (length sram) addressed);
-        no-address = λ u off. by-address u ∙ rw (not-readable off);
-        accepted = λ u inside aligned. by-address u ∙ rw (is-readable inside aligned);
-        declined = declined;
-        word = word-there;
-        kept = kept;
-        waited = λ h b. waited g s sram address (waits-busy (accepted-read h) b);
-      }
-
--- ---- nothing else is as asked
-
--- the steps of a read end with the first that gives an event
-same-left : (g : Geometry) (s : State) (sram : List ℕ) (t u : State) → LeftBySteps g s sram t → LeftBySteps g s sram u → t ≡ u
-same-left g s sram t u a b = a .same ∙ ap (λ (n : ℕ). runOf g s (replicate n (step sram))) (go (decLt (a .count) (b .count)) (decLt (b .count) (a .count))) ∙ sym (b .same)
-  where
-    -- one that ends earlier gives an event where the other gives none
-    earlier : (t u : State) (a : LeftBySteps g s sram t) (b : LeftBySteps g s sram u) → a .count < b .count → ⊥
-    earlier t u a b l =
-        let k = a .count - 1 in
-        let one : k + 1 ≡ a .count = omega (arith, a .some) in
-        true-not-false (sym (a .last k one) ∙ b .quiet k (omega (arith, one, l)))
-
-    go : Dec (a .count < b .count) → Dec (b .count < a .count) → a .count ≡ b .count
-    go (yes l) m = absurd (earlier t u a b l)
-    go (no l) (yes m) = absurd (earlier u t b a m)
-    go (no l) (no m) = omega (arith, l, m)
-
-module _ (g : Geometry) (s : State) (sram : List ℕ) (address : ℕ) (r : Reading) (a : Reads g s sram address r) where
-  abbrev q : Reading
-  q = flashReadOf g s sram address
-
-  abbrev b : Reads g s sram address q
-  b = reads g s sram address
-
-  one-number : numberOf (r .after .decline) ≡ numberOf (q .after .decline)
-  one-number = go (acceptedOf (common g s sram address)) refl (locateOf g address .inside) refl (ℕ-discrete (address % 4) 0)
-    where
-      fixed : (n : ℕ) → CommonDeclines g (s .device) (lengthsOf s) (length sram) n → acceptedOf (common g s sram address) ≡ false
-          → n ≡ numberOf (common g s sram address)
-      fixed n = common-fixes g (s .device) (lengthsOf s) (length sram) n
-
-      u : acceptedOf (common g s sram address) ≡ true → Readable g s sram
-      u = usable g (s .device) (lengthsOf s) (length sram)
-
-      unread : acceptedOf (common g s sram address) ≡ true → (locateOf g address .inside ≡ true → address % 4 ≡ 0 → ⊥)
-          → numberOf (r .after .decline) ≡ numberOf (q .after .decline)
-      unread on off = a .no-address (u on) off ∙ sym (b .no-address (u on) off)
-
-      go : (t : Bool) → acceptedOf (common g s sram address) ≡ t → (f : Bool) → locateOf g address .inside ≡ f → Dec (address % 4 ≡ 0)
-          → numberOf (r .after .decline) ≡ numberOf (q .after .decline)
-      go false off f e d = fixed _ (a .declines) off ∙ sym (fixed _ (b .declines) off)
-      go true on true e (yes aligned) = a .accepted (u on) e aligned ∙ sym (b .accepted (u on) e aligned)
-      go true on true e (no odd) = unread on (λ inside aligned. odd aligned)
-      go true on false e d = unread on (λ inside aligned. true-not-false (sym inside ∙ e))
-
-  record Same : Type 0 where
-    state : r .after .state ≡ q .after .state
-    event : r .after .event ≡ q .after .event
-    word : r .word ≡ q .word
-
-  -- of reads that are not declined the word follows from the state
-  answered : numberOf (r .after .decline) ≡ 0 → r .after .state ≡ q .after .state → r .after .event ≡ q .after .event → Same
-  answered h e event =
-      let word = a .word h ∙ ap (λ (t : State). wordReadOf g t address) e ∙ sym (b .word (sym one-number ∙ h)) in
-      record { state = e; event = event; word = word }
-
-  by-waiting : numberOf (r .after .decline) ≡ 0 → (w : Bool) → waitsOf g s sram address ≡ w → Same
-  by-waiting h true w =
-      let busy = busy-waits g s sram address w .1 in
-      let one = a .waited h busy in
-      let other = b .waited (sym one-number ∙ h) busy in
-      answered h (same-left g s sram _ _ (one .steps) (other .steps)) (one .event ∙ sym (other .event))
-  by-waiting h false w =
-      let k : numberOf (q .after .decline) ≡ 0 = sym one-number ∙ h in
-      let free : Busy g (s .device) address → ⊥ =
-      λ busy. true-not-false (sym (waits-busy g s sram address (accepted-read g s sram address k) busy) ∙ w) in
-      let (state, event) = a .kept h free in
-      let (own, none) = b .kept k free in
-      answered h (state ∙ sym own) (event ∙ sym none)
-
-  same : Same
-  same = go (ℕ-discrete (numberOf (r .after .decline)) 0)
-    where
-      go : Dec (numberOf (r .after .decline) ≡ 0) → Same
-      go (yes h) = by-waiting h (waitsOf g s sram address) refl
-      go (no off) =
-          let (state, (event, word)) = a .declined off in
-          let (own, (none, zeros)) = b .declined (λ h. off (one-number ∙ h)) in
-          record { state = state ∙ sym own; event = event ∙ sym none; word = word ∙ sym zeros }
-
-  one-reading : r ≡ q
-  one-reading =
-      let decline = numbers .one (r .after .decline) (q .after .decline) one-number in
-      λ i. reading (after (decline i) (same .state i) (same .event i)) (same .word i)
+  stalls-waiting : waitsOf g s sram address ≡ true → (acceptedOf (readAnswerOf g s sram address) ≡ true) × Stalls g (s .device) address
+  stalls-waiting w =
+      let (ok, busy) = and-both (acceptedOf (readAnswerOf g s sram address)) _ w in
+      (ok, stalls g s sram address ok (not-true _ busy))
 
 -- an SRAM that is not too long is no part of declines 1 to 3
 same-declines : (g : Geometry) (d : Device) (lengths : List ℕ) (sram : ℕ) → sram ≤ mostSram → commonDeclineOf g d lengths sram ≡ commonDeclineOf g d lengths 0
@@ -499,10 +311,9 @@ answers-kept g s sram address short =
 pub waits : Waits
 waits =
     record {
-      meets = reads;
-      fixes = one-reading;
+      waits = waits-stalled;
+      waits-only = stalls-waiting;
+      waited = waited;
       answers-kept = answers-kept;
-      waits = waits-busy;
-      waits-only = busy-waits;
       keeps = λ g s sram address. keeps g s (flashRead sram address);
     }

@@ -11,7 +11,7 @@ use Rattle.words.specs.Word.{pick, clearOf}
 use Rattle.words.specs.Quad.{wordAt}
 use Rattle.words.proofs.PickLaws.{pick-both, and-both}
 use Rattle.words.proofs.BitLaws.{true-not-false}
-use Rattle.words.proofs.QuadLaws.{put-length, put-other-word}
+use Rattle.words.proofs.QuadLaws.{put-other-word}
 use Rattle.geometry.specs.declared.banks.Geometry.{Geometry}
 use Rattle.words.specs.Decline.{acceptedOf}
 use Rattle.map.specs.Windows.{pageOf}
@@ -28,8 +28,9 @@ use Rattle.device.specs.Registers.{WR, WRERR}
 use Rattle.flash.specs.Step.{endedOf, advanceOf, stepEffectOf, steppedOf, stepAnswerOf, stepOf}
 use Rattle.flash.proofs.EffectLaws.{effect-second, effect-quad}
 use Rattle.flash.proofs.AcceptedLaws.{runs, step-ready}
+use Rattle.flash.proofs.WriteLaws.{written-length}
 use Rattle.sequence.specs.declared.comparison.Reason.{Reason}
-use Rattle.resets.specs.Reset.{tornOf, tearOf, comparisonOf, restartOf, resetAnswerOf, Explained, explained, explainedOf, resetOf}
+use Rattle.resets.specs.Reset.{tornOf, whileRunning, tearOf, comparisonOf, restartOf, resetAnswerOf, Explained, explained, explainedOf, resetOf}
 use Rattle.resets.proofs.AcceptedLaws.{reset-ready}
 use Rattle.device.specs.State.{State, bankOf, After, after}
 use Rattle.controller.specs.Controller.{transitionOf, Outside, stepSecondOf, stepQuadOf, OneQuad}
@@ -121,7 +122,7 @@ reset-writes g s sram kind mask =
     (λ on.
     let ready = reset-ready g (s .device) _ _ _ kind on in
     record {
-      write = tornOf s mask (effectOf g s sram .write);
+      write = whileRunning (s .device) (tornOf s mask (effectOf g s sram .write));
       second = effect-second g s sram;
       quad = effect-quad g s sram;
       first = refl;
@@ -134,17 +135,6 @@ reset-writes g s sram kind mask =
     (λ off. no-write g s _ refl refl)
 
 -- ---- what follows for the banks
-module _ (bank : List ℕ) (w : Write) where
-  one-length : length (oneAfter bank w) ≡ length bank
-  one-length =
-      pick-both (λ (l : List ℕ). length l ≡ length bank) (w .writes)
-      (pick-both (λ (l : List ℕ). length l ≡ length bank) (w .second) refl (put-length bank (w .quad) (w .words))) refl
-
-  two-length : length (twoAfter bank w) ≡ length bank
-  two-length =
-      pick-both (λ (l : List ℕ). length l ≡ length bank) (w .writes)
-      (pick-both (λ (l : List ℕ). length l ≡ length bank) (w .second) (put-length bank (w .quad) (w .words)) refl) refl
-
 module _ (one two : List ℕ) (quad : ℕ) (words : List ℕ) where
   -- the banks after a write, bank 2 or bank 1
   abbrev written : Bool → Bool → Bool → List ℕ
@@ -165,8 +155,8 @@ module _ (one two : List ℕ) (quad : ℕ) (words : List ℕ) where
 
 module _ (g : Geometry) (s t : State) (w : Writes g s t) where
   pub bank-length : (second : Bool) → length (bankOf t second) ≡ length (bankOf s second)
-  bank-length true = ap length (w .other) ∙ two-length (s .two) (w .write)
-  bank-length false = ap length (w .first) ∙ one-length (s .one) (w .write)
+  bank-length true = ap length (w .other) ∙ written-length s (s .device) (w .write) true
+  bank-length false = ap length (w .first) ∙ written-length s (s .device) (w .write) false
 
   pub one-quad : OneQuad g s t
   one-quad =

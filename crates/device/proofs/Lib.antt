@@ -1,1 +1,3 @@
 pub mod TableLaws
+pub mod ByNumber
+pub mod NumberLaws

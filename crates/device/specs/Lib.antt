@@ -3,3 +3,4 @@ pub mod Registers
 pub mod Record
 pub mod Builders
 pub mod State
+pub mod ByNumber

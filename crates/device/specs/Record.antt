@@ -10,7 +10,7 @@ use Rattle.device.specs.declared.record.Operands.{Operands}
 use Rattle.device.specs.Registers.{WR, PFSWAP, BFSWAP}
 use Rattle.device.specs.Numbers.{NVMCON, NVMKEY, NVMADDR, NVMDATA0, NVMDATA1, NVMDATA2, NVMDATA3, NVMSRCADDR, NVMPWP, NVMBWP, NVMCON2}
 
--- a register by its number, and 0 where there is none
+-- a register by its number, and 0 where there is none (ours; no call answers with it)
 unfoldable pub registerOf : Device → ℕ → ℕ
 registerOf d r =
     pick (eqb r NVMCON) (d .nvmcon .0)

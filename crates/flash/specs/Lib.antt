@@ -1,3 +1,4 @@
 pub mod Write
 pub mod Effect
 pub mod Step
+pub mod StepSentences

@@ -51,6 +51,6 @@ steppedOf s e = after Decline.Accepted (writtenOf s (e .answer .device) (e .writ
 abbrev pub stepAnswerOf : Geometry → State → List ℕ → Decline
 stepAnswerOf g s sram = stepDeclineOf g (s .device) (length (s .one)) (length (s .two)) (length sram)
 
--- one step of the running operation
+-- one step of the running operation; where it is declined there is no event (ours)
 unfoldable pub stepOf : Geometry → State → List ℕ → After
 stepOf g s sram = pick (acceptedOf (stepAnswerOf g s sram)) (steppedOf s (stepEffectOf g s sram)) (after (stepAnswerOf g s sram) s false)

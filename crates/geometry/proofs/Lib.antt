@@ -2,3 +2,4 @@ pub mod LentLaws
 pub mod SizeLaws
 pub mod LargerBanks
 pub mod FitLaws
+pub mod Sizes

@@ -1,5 +1,5 @@
 -- Declines 1 and 2: the geometry, and the lengths of what is lent with it. Assumes nothing.
-use Prim.Native.Nat.{ℕ, _≤_, _<_}
+use Prim.Native.Nat.{ℕ, _+_, _*_, _≤_, _<_}
 use mathlib.Core.Path.{_≡_}
 use mathlib.Core.Bool.{Bool, true, false, _&&_}
 use mathlib.Core.List.{List, [], _∷_}
@@ -34,7 +34,7 @@ lengthsFitOf g lengths sram = bankLengths g lengths && leb sram mostSram
 
 -- the same as facts (`fit` of proofs/FitLaws)
 pub record Fit (g : Geometry) (lengths : List ℕ) (sram : ℕ) : Type 0 where
-  pub banks : (i : ℕ) → i < length lengths → getD lengths i 0 ≡ bankWordsOf g
+  pub banks : (i : ℕ) → i < length lengths → getD lengths i 0 ≡ (g .b + g .p) * (32 * g .q)
   pub room : sram ≤ 16384
 
 -- declines 1 and 2 where P is at most `most`, by the lengths of the banks and the image, and of the SRAM, which is 0 where none is lent

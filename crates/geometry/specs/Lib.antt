@@ -1,3 +1,4 @@
 pub mod Banks
 pub mod Lent
 pub mod LargerBanks
+pub mod Sizes

@@ -3,7 +3,7 @@
 -- Assumes nothing.
 use mathlib.Core.Path.{_≡_, refl, sym, ap, _∙_}
 use mathlib.Core.Bool.{Bool, true, false, _&&_}
-use Prim.Native.Nat.{ℕ, _+_, _-_, _*_, _/_, _≤_, _<_}
+use Prim.Native.Nat.{ℕ, _+_, _-_, _*_, _/_, _%_, _≤_, _<_}
 use native.Mathlib.Nat.{mul-le-mul, div-lt-iff-lt-mul, mul-add-div-right, mul-assoc, div-mul-le-self}
 use native.Mathlib.Nat.{lt-of-le-of-lt, le-trans, le-refl, suc-mul, mul-div-cancel}
 use native.Mathlib.Omega.{arith}
@@ -67,6 +67,13 @@ module _ (g : Geometry) (program upper : Bool) (a : ℕ) where
   stands-here h = let w = within h in rw (w .here) (record { address = w .address; room = w .room })
 
 -- ---- the four
+-- each starts at a word
+pub start-aligned : (g : Geometry) (program upper : Bool) → windowStartOf g program upper % 4 ≡ 0
+start-aligned g true true = omega arith
+start-aligned g true false = omega arith
+start-aligned g false true = omega arith
+start-aligned g false false = omega arith
+
 module _ (g : Geometry) (ok : InRange g) where
   -- an offset of a window leads back to it: the windows do not overlap
   pub window-found : (program upper : Bool) (offset : ℕ) → offset < windowBytesOf g program

@@ -1,2 +1,3 @@
 pub mod Apart
 pub mod Windows
+pub mod Mapped

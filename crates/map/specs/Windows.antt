@@ -32,7 +32,7 @@ windowBytesOf g program = pick program (programBytesOf g) (bootBytesOf g)
 abbrev pub located : Bool → Bool → ℕ → Location
 located program upper offset = record { inside = true; program = program; upper = upper; offset = offset }
 
--- outside the four windows
+-- outside the four windows; kind, side and offset are then false and 0 (ours; nothing reads them)
 abbrev pub nowhere : Location
 nowhere = record { inside = false; program = false; upper = false; offset = 0 }
 

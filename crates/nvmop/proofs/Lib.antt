@@ -1,2 +1,3 @@
 pub mod OperationLaws
 pub mod Bench
+pub mod Failing

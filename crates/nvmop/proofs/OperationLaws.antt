@@ -5,16 +5,16 @@ use mathlib.Core.Bool.{Bool, true, false, not, _||_}
 use Prim.Native.Nat.{ℕ, zero, suc, _-_, _*_, _≤_, _<_}
 use native.Mathlib.Nat.{mul-le-mul}
 use native.Mathlib.Omega.{arith}
-use lib.Dec.{eqb, leb}
-use borrow.Author.Tests.{le-leb, leb-true}
+use lib.Dec.{eqb}
 use Rattle.words.specs.Word.{pick}
-use Rattle.words.proofs.PickLaws.{pick-both, and-both}
+use Rattle.words.proofs.PickLaws.{pick-both}
 use Rattle.geometry.specs.declared.banks.Geometry.{Geometry}
 use Rattle.map.specs.declared.Location.{Location}
 use Rattle.geometry.specs.Banks.{InRange, roundDownOf}
 use Rattle.map.specs.Windows.{windowBytesOf, pageOf}
 use Rattle.map.proofs.WindowLaws.{stands, page-below}
 use Rattle.protection.specs.Protection.{programProtectedOf, pageOffsetOf, anyProtectedOf}
+use Rattle.protection.proofs.ProtectionLaws.{is-protected, protected-by}
 use Rattle.nvmop.specs.Operation.{unitOf, targetOf, regionBeginsOf, lengthOf}
 
 module _ (g : Geometry) (ok : InRange g) where
@@ -48,11 +48,7 @@ module _ (g : Geometry) (ok : InRange g) where
 
   -- a page at a lower offset is protected too
   lower-protected : (pwp x y : ℕ) → x ≤ y → programProtectedOf pwp y ≡ true → programProtectedOf pwp x ≡ true
-  unfolding programProtectedOf
-  lower-protected pwp x y h e =
-      let s = and-both (not (eqb pwp 0)) (leb y pwp) e in
-      let k : y ≤ pwp = leb-true _ _ (s .1) in
-      rw (s .0, le-leb x pwp (omega arith))
+  lower-protected pwp x y h e = let (some, low) = protected-by pwp y e in is-protected pwp x some (omega (arith, h, low))
 
   offset-low : (upper : Bool) (n : ℕ) → pageOffsetOf g upper 0 ≤ pageOffsetOf g upper n
   offset-low true n = omega arith

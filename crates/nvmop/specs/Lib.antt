@@ -1,2 +1,3 @@
 pub mod Operation
 pub mod Bench
+pub mod Failing

@@ -1,1 +1,2 @@
+pub mod ProtectionLaws
 pub mod Reach

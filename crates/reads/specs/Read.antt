@@ -86,6 +86,7 @@ reading a word = record { after = a; word = word }
 abbrev pub readyOf : Geometry → State → List ℕ → ℕ → Stepped
 readyOf g s sram address = pick (freeOf g (s .device) (secondAtOf (s .device) (locateOf g address))) (stepped s false) (waitedOf g s sram)
 
+-- a read; where it is declined nothing changes, the word is 0, and there is no event (ours)
 unfoldable pub flashReadOf : Geometry → State → List ℕ → ℕ → Reading
 flashReadOf g s sram address =
     pick (acceptedOf (readAnswerOf g s sram address))

@@ -48,7 +48,7 @@ unfolding storeDeclineOf
 store-ready g d r form h =
     let s0 = neither (commonDeclineOf g d [] 0) _ h in
     let s1 = held (hasFormOf r form) _ Decline.Register refl (s0 .1) in
-    let s2 = held (mayStoreOf d r) Decline.Accepted Decline.Running refl (s1 .1) in
+    let s2 = held (mayStoreOf d r) _ _ refl (s1 .1) in
     let open′ = ready g d [] 0 (s0 .0) in
     record { listed = open′ .lent .listed; range = open′ .lent .range; possible = open′ .possible; formed = s1 .0; may = s2 .0 }
 

@@ -1,1 +1,5 @@
 pub mod AcceptedLaws
+pub mod ReadSentences
+pub mod AppliedLaws
+pub mod LaunchSentences
+pub mod StoreSentences

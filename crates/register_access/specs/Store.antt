@@ -70,7 +70,7 @@ storeWanted g d r w =
 unfoldable pub storeAcceptedOf : Geometry → Device → ℕ → ℕ → ℕ → Answer
 storeAcceptedOf g d r form value = storeWanted g d r (wantedOf form (registerOf d r) value)
 
--- a store; where it is declined the device is as before
+-- a store; where it is declined the device is as before, and there is no event (ours)
 unfoldable pub storeOf : Geometry → Device → ℕ → ℕ → ℕ → Answer
 storeOf g d r form value =
     pick (acceptedOf (storeDeclineOf g d r form)) (storeAcceptedOf g d r form value)
@@ -80,7 +80,8 @@ storeOf g d r form value =
 unfoldable pub readDeclineOf : Geometry → Device → ℕ → Decline
 readDeclineOf g d r = firstOf (commonDeclineOf g d [] 0) (pick (ltb NVMCON2 r) Decline.Register Decline.Accepted)
 
--- the value of the register; the key step is W-203's, where 01 had "any register read, sets it to 0 afterwards", and nothing else changes
+-- the value of the register, 0 where the read is declined (ours); the key step is W-203's, where 01 had "any register read, sets it to 0
+-- afterwards", and nothing else changes
 unfoldable pub registerReadOf : Geometry → Device → ℕ → RegisterRead
 registerReadOf g d r =
     pick (acceptedOf (readDeclineOf g d r))

@@ -1,1 +1,3 @@
 pub mod AcceptedLaws
+pub mod DeviceLaws
+pub mod ResetSentences

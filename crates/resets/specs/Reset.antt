@@ -16,7 +16,7 @@ use Rattle.sequence.specs.Sequence.{sequenceIndexOf}
 use Rattle.sequence.specs.Comparison.{compareOf}
 use Rattle.device.specs.declared.record.Device.{Device}
 use Rattle.device.specs.Registers.{WR, WREN, LVDERR, PFSWAP, BFSWAP, NVMERS, resets}
-use Rattle.device.specs.Builders.{powerOn, withCon, withStored, withLaunched}
+use Rattle.device.specs.Builders.{powerOn, withCon}
 use Rattle.device.specs.State.{State, state, bankOf, After, after}
 use Rattle.device.specs.Record.{running, noOperands}
 use Rattle.common_declines.specs.CommonDecline.{commonDeclineOf}
@@ -39,19 +39,23 @@ otherReset = 2
 unfoldable pub resetDeclineOf : Geometry → Device → ℕ → ℕ → ℕ → ℕ → Decline
 resetDeclineOf g d one two sram kind = firstOf (commonDeclineOf g d (one ∷ two ∷ []) sram) (pick (ltb otherReset kind) Decline.ResetKind Decline.Accepted)
 
--- "With WR = 1 a reset first tears the quad of the next step: the four words of the torn mask choose, bit by bit, intended (1) or old (0).
--- A step that would abort or hit a protected page tears nothing."
+-- "the four words of the torn mask choose, bit by bit, intended (1) or old (0). A step that would abort or hit a protected page tears nothing."
 abbrev pub tornOf : State → List ℕ → Write → Write
 tornOf s mask w =
     record {
-      writes = running (s .device) && w .writes;
+      writes = w .writes;
       second = w .second;
       quad = w .quad;
       words = mergeQuadOf mask (w .words) (quadAt (bankOf s (w .second)) (w .quad));
     }
 
+-- "With WR = 1": with WR = 0 nothing is written
+abbrev pub whileRunning : Device → Write → Write
+whileRunning d w = record { writes = running d && w .writes; second = w .second; quad = w .quad; words = w .words }
+
+-- "With WR = 1 a reset first tears the quad of the next step"
 abbrev pub tearOf : Geometry → State → List ℕ → List ℕ → State
-tearOf g s sram mask = writtenOf s (s .device) (tornOf s mask (effectOf g s sram .write))
+tearOf g s sram mask = writtenOf s (s .device) (whileRunning (s .device) (tornOf s mask (effectOf g s sram .write)))
 
 -- the comparison of what two banks hold, and BFSWAP by it
 abbrev pub comparisonOf : Geometry → List ℕ → List ℕ → Comparison
@@ -73,12 +77,19 @@ resetConOf d kind =
 unfoldable pub resetDeviceOf : Device → ℕ → Bool → Device
 resetDeviceOf d kind swap =
     pick (eqb kind powerOnReset) (withCon powerOn (bitOr (resetConOf d kind) (pick swap BFSWAP 0)) 0 0)
-    (withLaunched
-    (withCon
-    (withStored d (d .nvmaddr) (d .nvmdata) (d .nvmsrcaddr) (getD resets NVMPWP 0) (getD resets NVMBWP 0)
-    (mergeOf NVMERS (d .nvmcon2 .0) (getD resets NVMCON2 0)) 0)
-    (bitOr (resetConOf d kind) (pick swap BFSWAP 0)) 0 0)
-    noOperands)
+    (record {
+      nvmcon = record { 0 = bitOr (resetConOf d kind) (pick swap BFSWAP 0) };
+      nvmkey = d .nvmkey;
+      nvmaddr = d .nvmaddr;
+      nvmdata = d .nvmdata;
+      nvmsrcaddr = d .nvmsrcaddr;
+      nvmpwp = record { 0 = getD resets NVMPWP 0 };
+      nvmbwp = record { 0 = getD resets NVMBWP 0 };
+      nvmcon2 = record { 0 = mergeOf NVMERS (d .nvmcon2 .0) (getD resets NVMCON2 0) };
+      keystep = 0;
+      step = 0;
+      launched = noOperands;
+    })
 
 -- "BFSWAP is compared after the tear. A reset gives no event."
 abbrev pub restartOf : Geometry → State → ℕ → After
@@ -96,7 +107,7 @@ pub record Explained : Type 0 where
 abbrev pub explained : After → Reason → Explained
 explained a reason = record { after = a; reason = reason }
 
--- W-205: "Reset passes it on": the reason is that of the comparison after the tear; a declined reset has compared nothing
+-- W-205: "Reset passes it on": the reason is that of the comparison after the tear; a declined reset has compared nothing (ours)
 unfoldable pub explainedOf : Geometry → State → List ℕ → ℕ → List ℕ → Explained
 explainedOf g s sram kind mask =
     pick (acceptedOf (resetAnswerOf g s sram kind))

@@ -7,7 +7,6 @@ ghost use Rattle.device.specs.Registers.{BFSWAP};
 ghost use lib.ListN.{length};
 ghost use Rattle.geometry.specs.Banks.{InRange, bankWordsOf};
 ghost use Rattle.common_declines.specs.Possible.{possibleOf};
-ghost use Rattle.device.specs.Record.{running};
 ghost use Rattle.flash.specs.Effect.{Runs, effectOf};
 ghost use Rattle.device.specs.State.{lent, after};
 ghost use Rattle.resets.specs.Reset.{resetDeclineOf, tornOf, tearOf, comparisonOf, resetConOf, resetDeviceOf, explained, explainedOf};
@@ -65,7 +64,7 @@ fn reset_decline(g: Geometry, d: Device, one: usize, two: usize, sram: usize, ki
     Decline::Accepted
 }
 
-// The write of the next step as a cut tears it, while an operation runs.
+// The write of the next step as a cut tears it.
 fn torn_write(
     g: Geometry,
     d: Device,
@@ -75,7 +74,6 @@ fn torn_write(
     mask: [u32; 4],
 ) -> Write
     requires { ⌜ Runs g d ⌝ }
-    requires { ⌜ running d ≡ true ⌝ }
     requires { ⌜ (length (now one) ≡ bankWordsOf g) × (length (now two) ≡ bankWordsOf g) ⌝ }
     ensures { λ r. ⌜ r ≡ (let s = lent d (one .entry) (two .entry) in tornOf s mask (effectOf g s (now (sram .entry)) .write)) ⌝ }
 {

@@ -6,7 +6,6 @@ use Prim.Native.Nat.{ℕ}
 use native.Mathlib.Omega.{arith}
 use mathlib.Core.List.{List, [], _∷_}
 use lib.Dec.{eqb, ltb}
-use lib.ListN.{getD}
 use borrow.Author.Tests.{eqb-true, eq-eqb, le-ltb}
 use Rattle.words.specs.Word.{pick}
 use Rattle.words.proofs.BitLaws.{true-not-false}
@@ -145,10 +144,15 @@ module _ (first other : ℕ) where
 
 -- ---- and nothing else is as asked
 
-abbrev listed : List Reason
-listed = Higher ∷ Equal ∷ OnlyOneValid ∷ NoneValid ∷ NotCompared ∷ []
+abbrev all : List Reason
+all = Higher ∷ Equal ∷ OnlyOneValid ∷ NoneValid ∷ NotCompared ∷ []
 
-back : (r : Reason) → getD listed (reasonNumberOf r) Higher ≡ r
+-- the first reason of a list that has this number
+abbrev numbered : ℕ → List Reason → Reason
+numbered n [] = Higher
+numbered n (r ∷ rest) = pick (eqb (reasonNumberOf r) n) r (numbered n rest)
+
+back : (r : Reason) → numbered (reasonNumberOf r) all ≡ r
 back Higher = refl
 back Equal = refl
 back OnlyOneValid = refl
@@ -157,7 +161,7 @@ back NotCompared = refl
 
 -- a reason is known by its number
 pub one-reason : (r q : Reason) → reasonNumberOf r ≡ reasonNumberOf q → r ≡ q
-one-reason r q h = sym (back r) ∙ ap (λ (n : ℕ). getD listed n Higher) h ∙ back q
+one-reason r q h = sym (back r) ∙ ap (λ (n : ℕ). numbered n all) h ∙ back q
 
 one-bank : (first other : ℕ) (a b : Bool) → ChosenBefore first other a → ChosenBefore first other b → a ≡ b
 one-bank first other a b p q = go (validOf first) refl (validOf other) refl

@@ -2,3 +2,4 @@ pub mod SequenceLaws
 pub mod ComparisonLaws
 pub mod Bench
 pub mod Sum
+pub mod Validity

@@ -3,3 +3,4 @@ pub mod Comparison
 pub mod Bench
 pub mod Sum
 pub mod Reasons
+pub mod Validity

@@ -26,7 +26,7 @@ Gives c number = eqb (reasonNumberOf (c .reason)) number
 
 -- what W-205 asks of an answer to the comparison of the sequence words of bank 1 and bank 2
 pub record Reasons (first other : ℕ) (c : Comparison) : Type 0 where
-  -- "higher, equal, only one valid, none valid": 0 to 3, each exactly where
+  -- "higher, equal, only one valid, none valid": 0 to 3 in this order (ours), each exactly where
   pub higher : Gives c 0 ≡ (validOf first && (validOf other && not (eqb (tseqOf first) (tseqOf other))))
   pub equal : Gives c 1 ≡ (validOf first && (validOf other && eqb (tseqOf first) (tseqOf other)))
   pub only-one : Gives c 2 ≡ pick (validOf first) (not (validOf other)) (validOf other)

@@ -1,1 +1,2 @@
 pub mod StartUpLaws
+pub mod StartUpSentences

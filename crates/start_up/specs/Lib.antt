@@ -1,1 +1,2 @@
 pub mod StartUp
+pub mod StartUpSentences

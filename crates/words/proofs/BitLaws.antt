@@ -137,7 +137,7 @@ equal-by-bits a b e =
 pub bit-zero : (k : ℕ) → bit k 0 ≡ false
 bit-zero k = ap (λ (x : ℕ). eqb (x % 2) 1) (div-eq-of-lt (pow-pos k))
 
-bit-self : (k : ℕ) → bit k (2 ^ k) ≡ true
+pub bit-self : (k : ℕ) → bit k (2 ^ k) ≡ true
 bit-self k = ap (λ (x : ℕ). eqb (x % 2) 1) (div-self (pow-pos k))
 
 pub bit-other : (j k : ℕ) → (j ≡ k → ⊥) → bit k (2 ^ j) ≡ false

@@ -3,7 +3,9 @@ pub mod PickLaws
 pub mod BitLaws
 pub mod FirstLaws
 pub mod MaskLaws
+pub mod FieldMaskLaws
 pub mod QuadLaws
 pub mod DeclineLaws
 pub mod Numbers
 pub mod ListLaws
+pub mod AscendingLaws

@@ -2,7 +2,8 @@
 use mathlib.Core.Path.{_≡_, refl, sym, ap, _∙_}
 use mathlib.Core.List.{List, [], _∷_}
 use Prim.Native.Nat.{ℕ, _≤_}
-use lib.ListN.{getD}
+use lib.Dec.{eqb}
+use Rattle.words.specs.Word.{pick}
 use native.Mathlib.Omega.{arith}
 use Rattle.words.specs.declared.decline.Decline.{Decline}
 use Rattle.words.specs.declared.decline.Decline.the-variants.{Accepted, Geometry, Length, Device, Register, Running, Idle, ResetKind, Address}
@@ -11,14 +12,18 @@ use Rattle.words.specs.declared.decline.Decline.the-variants.{ScriptBuff
 use Rattle.words.specs.Decline.{numberOf}
 use Rattle.words.specs.Numbers.{Numbers}
 
--- the declines by their numbers; at 9, which is none's, the first
-abbrev listed : List Decline
-listed =
+abbrev all : List Decline
+all =
     Accepted ∷ Geometry ∷ Length ∷ Device ∷ Register ∷ Running ∷ Idle ∷ ResetKind
-    ∷ Address ∷ Accepted ∷ Sequence ∷ LastSequence ∷ Protection ∷ Place ∷ Script ∷ Hours
-    ∷ NoWait ∷ ScriptBuffer ∷ SheetBuffer ∷ Row ∷ Records ∷ NotShown ∷ Lanes ∷ []
+    ∷ Address ∷ Sequence ∷ LastSequence ∷ Protection ∷ Place ∷ Script ∷ Hours ∷ NoWait
+    ∷ ScriptBuffer ∷ SheetBuffer ∷ Row ∷ Records ∷ NotShown ∷ Lanes ∷ []
 
-back : (d : Decline) → getD listed (numberOf d) Accepted ≡ d
+-- the first decline of a list that has this number
+abbrev numbered : ℕ → List Decline → Decline
+numbered n [] = Accepted
+numbered n (d ∷ rest) = pick (eqb (numberOf d) n) d (numbered n rest)
+
+back : (d : Decline) → numbered (numberOf d) all ≡ d
 back Accepted = refl
 back Geometry = refl
 back Length = refl
@@ -95,5 +100,5 @@ numbers =
     record {
       no-nine = not-nine;
       highest = at-most;
-      one = λ d e h. sym (back d) ∙ ap (λ (n : ℕ). getD listed n Accepted) h ∙ back e;
+      one = λ d e h. sym (back d) ∙ ap (λ (n : ℕ). numbered n all) h ∙ back e;
     }

@@ -16,6 +16,20 @@ pub pick-both : {A : Type 0} (P : A → Type 0) (t : Bool) {x y : A} → P x →
 pick-both P true p q = p
 pick-both P false p q = q
 
+-- each may use what the test says
+pub pick-each : {A : Type 0} (P : A → Type 0) (t : Bool) {x y : A} → (t ≡ true → P x) → (t ≡ false → P y) → P (pick t x y)
+pick-each P true p q = p refl
+pick-each P false p q = q refl
+
+-- a test that cannot hold, and one that cannot fail
+pub never-true : (t : Bool) → (t ≡ true → ⊥) → t ≡ false
+never-true true h = absurd (h refl)
+never-true false h = refl
+
+pub never-false : (t : Bool) → (t ≡ false → ⊥) → t ≡ true
+never-false true h = refl
+never-false false h = absurd (h refl)
+
 -- both parts of a test hold
 pub and-both : (a b : Bool) → (a && b) ≡ true → (a ≡ true) × (b ≡ true)
 and-both true b h = (refl, h)

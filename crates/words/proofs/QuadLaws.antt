@@ -1,15 +1,21 @@
 -- The quads of a bank: a store changes its own quad and no other word, and keeps the length. A merge of quads is the merge of each bit.
+-- So a torn quad is, bit by bit, the intended or the old one. A quad is blank where each of its words is all ones.
 -- Assumes nothing.
-use mathlib.Core.Path.{_≡_, refl, ap, _∙_}
+use mathlib.Core.Path.{_≡_, refl, sym, ap, _∙_}
+use mathlib.Core.Bool.{Bool, true, false, _&&_}
 use mathlib.Core.List.{List, [], _∷_}
 use mathlib.Core.Logic.{_⊎_, inl, inr, ⊎-elim}
-use Prim.Native.Nat.{ℕ, _+_, _*_, _≤_, _<_}
+use Prim.Native.Nat.{ℕ, _+_, _-_, _*_, _%_, _≤_, _<_}
+use native.Mathlib.Decide.{decLt, decLe}
 use native.Mathlib.Omega.{arith}
+use lib.Dec.{eqb}
 use lib.ListN.{length, set, length-set}
 use lib.Seq.{getD-set-same, getD-set-other}
-use Rattle.words.specs.Word.{pick, bit, mergeOf}
-use Rattle.words.specs.Quad.{wordAt, quadFrom, quadAt, putFrom, putQuad, mergeQuadOf}
+use borrow.Author.Tests.{eqb-true, eqb-false}
+use Rattle.words.specs.Word.{pick, bit, mergeOf, allOnes}
+use Rattle.words.specs.Quad.{wordAt, quadFrom, quadAt, putFrom, putQuad, mergeQuadOf, isBlankOf}
 use Rattle.words.proofs.CaseLaws.{below-four}
+use Rattle.words.proofs.PickLaws.{pick-same, and-both}
 use Rattle.words.proofs.BitLaws.{merge-bit}
 
 pub put-length : (bank : List ℕ) (i : ℕ) (quad : List ℕ) → length (putQuad bank i quad) ≡ length bank
@@ -70,3 +76,76 @@ merge-quad-word mask a b = below-four _ refl refl refl refl
 pub merge-quad-bit : (mask a b : List ℕ) (j k : ℕ) → j < 4
     → bit k (wordAt (mergeQuadOf mask a b) j) ≡ pick (bit k (wordAt mask j)) (bit k (wordAt a j)) (bit k (wordAt b j))
 merge-quad-bit mask a b j k h = ap (bit k) (merge-quad-word mask a b j h) ∙ merge-bit k (wordAt mask j) (wordAt a j) (wordAt b j)
+
+-- word j of a quad of a bank
+pub quad-word : (bank : List ℕ) (i j : ℕ) → j < 4 → wordAt (quadAt bank i) j ≡ wordAt bank (4 * i + j)
+quad-word bank i = below-four _ (let e : 4 * i + 0 ≡ 4 * i = omega arith in rw e) refl refl refl
+
+-- ---- torn quads
+
+-- a word of the quad that was stored
+put-same-word : (bank : List ℕ) (i : ℕ) (quad : List ℕ) (j : ℕ) → j < 4 → 4 * i + 4 ≤ length bank → wordAt (putQuad bank i quad) (4 * i + j) ≡ wordAt quad j
+put-same-word bank i quad j l h =
+    let four = wordAt quad 0 ∷ wordAt quad 1 ∷ wordAt quad 2 ∷ wordAt quad 3 ∷ [] in
+    sym (quad-word (putQuad bank i quad) i j l)
+    ∙ ap (λ (q : List ℕ). wordAt q j) (put-same-quad bank i (wordAt quad 0) (wordAt quad 1) (wordAt quad 2) (wordAt quad 3) h)
+    ∙ below-four (λ j. wordAt four j ≡ wordAt quad j) refl refl refl refl j l
+
+-- where a quad is stored torn, each bit of the bank is as the whole quad would have left it, or as it was
+module _ (bank : List ℕ) (i : ℕ) (h : 4 * i + 4 ≤ length bank) (mask quad : List ℕ) (k : ℕ) where
+  abbrev torn : List ℕ
+  torn = mergeQuadOf mask quad (quadAt bank i)
+
+  abbrev Torn : ℕ → Type 0
+  Torn v =
+      bit k (wordAt (putQuad bank i torn) v)
+      ≡ pick (bit k (wordAt mask (v % 4))) (bit k (wordAt (putQuad bank i quad) v)) (bit k (wordAt bank v))
+
+  torn-inside : (j : ℕ) → j < 4 → Torn (4 * i + j)
+  torn-inside j l =
+      let low : (4 * i + j) % 4 ≡ j = omega arith in
+      ap (bit k) (put-same-word bank i torn j l h)
+      ∙ merge-quad-bit mask quad (quadAt bank i) j k l
+      ∙ rw (low, put-same-word bank i quad j l h, quad-word bank i j l)
+
+  torn-outside : (v : ℕ) → (v < 4 * i) ⊎ (4 * i + 4 ≤ v) → Torn v
+  torn-outside v out = rw (put-other-word bank i torn v out, put-other-word bank i quad v out) (sym (pick-same (bit k (wordAt mask (v % 4))) _))
+
+  pub put-torn : (v : ℕ) → Torn v
+  put-torn v = go (decLt v (4 * i)) (decLe (4 * i + 4) v)
+    where
+      go : Dec (v < 4 * i) → Dec (4 * i + 4 ≤ v) → Torn v
+      go (yes low) high = torn-outside v (inl low)
+      go (no low) (yes high) = torn-outside v (inr high)
+      go (no low) (no high) =
+          let e : 4 * i + (v - 4 * i) ≡ v = omega arith in
+          rw e at (torn-inside (v - 4 * i) (omega arith))
+
+-- ---- blank quads
+
+pub blank-word : (quad : List ℕ) → isBlankOf quad ≡ true → (j : ℕ) → j < 4 → wordAt quad j ≡ allOnes
+blank-word quad h =
+    let ones : ℕ → Bool = λ j. eqb (wordAt quad j) allOnes in
+    let (first, rest) = and-both (ones 0) (ones 1 && (ones 2 && ones 3)) h in
+    let (second, last) = and-both (ones 1) (ones 2 && ones 3) rest in
+    let (third, fourth) = and-both (ones 2) (ones 3) last in
+    below-four _ (eqb-true _ _ first) (eqb-true _ _ second) (eqb-true _ _ third) (eqb-true _ _ fourth)
+
+-- a word other than all ones
+pub record OtherWord (quad : List ℕ) : Type 0 where
+  pub word : ℕ
+  pub below : word < 4
+  pub not-ones : wordAt quad word ≡ allOnes → ⊥
+
+pub other-word : (quad : List ℕ) → isBlankOf quad ≡ false → OtherWord quad
+other-word quad h = go (eqb (wordAt quad 0) allOnes) refl (eqb (wordAt quad 1) allOnes) refl (eqb (wordAt quad 2) allOnes) refl
+  where
+    word : (j : ℕ) → j < 4 → eqb (wordAt quad j) allOnes ≡ false → OtherWord quad
+    word j l e = record { word = j; below = l; not-ones = eqb-false _ _ e }
+
+    go : (a : Bool) → eqb (wordAt quad 0) allOnes ≡ a → (b : Bool) → eqb (wordAt quad 1) allOnes ≡ b → (c : Bool) → eqb (wordAt quad 2) allOnes ≡ c
+        → OtherWord quad
+    go false ea b eb c ec = word 0 (omega arith) ea
+    go true ea false eb c ec = word 1 (omega arith) eb
+    go true ea true eb false ec = word 2 (omega arith) ec
+    go true ea true eb true ec = word 3 (omega arith) (simp (ea, eb, ec) at h)

@@ -1,4 +1,4 @@
--- "Why a call is declined": the paper's number of each answer, 0 where the call is not declined. Assumes nothing.
+-- "Why a call is declined": the paper's number of each answer; 0 where the call is not declined (ours, as a script prints it). Assumes nothing.
 use Prim.Native.Nat.{ℕ}
 use mathlib.Core.Bool.{Bool}
 use lib.Dec.{eqb}

@@ -27,7 +27,7 @@ steps c =
     runs (start .args .g) (start .args .d) (start .pre .0) (start .pre .1 .0) (on c)
 
 in-banks : tie.Need-torn-write-requires
-in-banks c κs = let test = c .before .before in (steps test, (on test, entry test .pre .1 .1))
+in-banks c κs = let test = c .before .before in (steps test, entry test .pre .1 .1)
 
 fits : tie.Need-apply-requires
 fits c κs =
@@ -35,13 +35,13 @@ fits c κs =
     let test = torn .before .before .before in
     let start = entry test in
     let a = start .args in
-    rw (torn .torn-write .ensures, on test) (effect-fits (a .g) (lent (a .d) (a .one) (a .two)) (a .sram .now) (steps test) (start .pre .1 .1))
+    rw (torn .torn-write .ensures) (effect-fits (a .g) (lent (a .d) (a .one) (a .two)) (a .sram .now) (steps test) (start .pre .1 .1))
 
 torn : tie.Need-returns-2
 torn c =
     let written = c .before .before .before .before in
     let torn = written .before .before .before in
-    rw (written .apply .ensures .0, written .apply .ensures .1, torn .torn-write .ensures)
+    rw (written .apply .ensures .0, written .apply .ensures .1, torn .torn-write .ensures, on (torn .before .before .before))
 
 pub tear-spec : {M : Type 1} → statement M
 tear-spec =
