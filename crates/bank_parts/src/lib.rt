@@ -1,4 +1,6 @@
 // Parts of the lent banks: the bank on the lower alias, and a page.
+#![tactic(auto)]
+
 ghost use Rattle.std.specs.Prelude.{◌≡◌, length};
 ghost use Rattle.bank_parts.specs.Parts.{lower_bank_decline_of, LentItself, lower_bank_of, page_decline_of, page_part_of, PartItself};
 

@@ -5,7 +5,7 @@ use crate::answers::answer_lines;
 use conformance_io::input::{fill, keep, make_room};
 
 // How many bytes are held after a turn, and whether the input ended there.
-#[derive(Drop)]
+#[derive(Clone, Copy)]
 struct Progress {
     is_end: bool,
     held: usize,

@@ -1,4 +1,6 @@
 // Reads cases from standard input, one to a line, and writes what each call gives.
+#![tactic(auto)]
+
 mod answers;
 mod input;
 

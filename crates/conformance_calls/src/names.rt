@@ -5,7 +5,7 @@ ghost use Rattle.conformance_calls.specs.Names.{Named};
 use conformance_cases::Shape;
 use conformance_lists::bytes::same;
 
-#[derive(Drop)]
+#[derive(Clone, Copy)]
 pub enum Call {
     Compare,
     Possible,

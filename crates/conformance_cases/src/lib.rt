@@ -1,5 +1,7 @@
 // The inputs of a call: numbers, lent lists, and numbers again.
 // What asks for a shape is no call of the device: its callers show it.
+#![tactic(auto)]
+
 ghost use Rattle.std.specs.Prelude.{◌≡◌, ◌&&◌, ◌≤◌};
 ghost use Rattle.conformance_cases.specs.Cases.{Parted, Read};
 
@@ -7,7 +9,7 @@ use conformance_lists::lists::take_list_if;
 use conformance_lists::numbers::take;
 
 // How many numbers a call takes, how many lists after them, and how many numbers after those.
-#[derive(Drop)]
+#[derive(Clone, Copy)]
 pub struct Shape {
     pub front: usize,
     pub lists: usize,
@@ -17,7 +19,7 @@ pub struct Shape {
 // Whether a line has the inputs, the numbers before the lists, where the lists start, the words of both banks, and the
 // numbers after the lists. Lists after the banks stand in the spare buffer: the last one ends there at `end`, and of two
 // the first ends, and the last starts, at `middle`.
-#[derive(Drop)]
+#[derive(Clone, Copy)]
 pub struct Case {
     pub is_right: bool,
     pub front: [u32; 26],
@@ -30,7 +32,7 @@ pub struct Case {
 }
 
 // The lists after the banks: whether they are there, where they end in the line, and where in the spare buffer.
-#[derive(Drop)]
+#[derive(Clone, Copy)]
 struct Rest {
     is_right: bool,
     next: usize,

@@ -25,6 +25,8 @@
 // number of its steps but all:
 //
 //     place, steps, the last step's answer, its event, 18 cuts, 6 sums
+#![tactic(auto)]
+
 mod cuts;
 mod lists;
 mod output;

@@ -11,7 +11,7 @@ const SMALL_WORDS: usize = 64;
 
 // A sign before power_on_lem: its geometry, the words of a bank and the index of the sequence word there, the number of the
 // old bank, and the sequence words of the old bank and of the other.
-#[derive(Drop)]
+#[derive(Clone, Copy)]
 pub struct Sign {
     pub geometry: Geometry,
     pub words: usize,

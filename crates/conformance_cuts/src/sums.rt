@@ -7,7 +7,7 @@ const PRIME: u64 = 4294967311;
 const FACTOR: u64 = 1000003;
 
 // The sums of a place.
-#[derive(Drop)]
+#[derive(Clone, Copy)]
 pub struct Sums {
     pub state: u64,
     pub devices: u64,

@@ -14,14 +14,14 @@ use update_turn::turn;
 use words::word::has;
 
 // The device after a reset and a start-up, and the bank that runs: 0 where there is none.
-#[derive(Drop)]
+#[derive(Clone, Copy)]
 pub struct Running {
     pub device: Device,
     pub bank: u32,
 }
 
 // How an update ends.
-#[derive(Drop)]
+#[derive(Clone, Copy)]
 pub struct Ended {
     pub device: Device,
     pub place: u32,

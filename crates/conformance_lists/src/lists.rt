@@ -6,7 +6,7 @@ ghost use Rattle.conformance_lists.specs.Lists.{Held};
 use crate::numbers::take;
 
 // Whether there is a list, where it ends, and its length.
-#[derive(Drop)]
+#[derive(Clone, Copy)]
 pub struct List {
     pub is_right: bool,
     pub next: usize,
@@ -14,7 +14,7 @@ pub struct List {
 }
 
 // Whether the pairs are right, and where they end.
-#[derive(Drop)]
+#[derive(Clone, Copy)]
 struct Pairs {
     is_right: bool,
     next: usize,

@@ -11,7 +11,7 @@ const LARGEST: u64 = 0xFFFF_FFFF;
 const NONE: u64 = 0x1_0000_0000;
 
 // What was read, and where it ends. With is_right false, a number is missing or is no u32.
-#[derive(Drop)]
+#[derive(Clone, Copy)]
 pub struct Taken {
     pub is_right: bool,
     pub next: usize,
@@ -19,7 +19,7 @@ pub struct Taken {
 }
 
 // A number, or NONE, and where it ends.
-#[derive(Drop)]
+#[derive(Clone, Copy)]
 struct Parsed {
     value: u64,
     next: usize,

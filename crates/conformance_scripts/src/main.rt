@@ -1,5 +1,7 @@
 // Plays service scripts for the tests. Each stands after its length in four bytes, little-endian; after what is printed
 // for it stands a line of one hyphen.
+#![tactic(auto)]
+
 ghost use Rattle.std.specs.Prelude.{◌+◌, ◌≤◌, ◌<◌, length};
 ghost use Rattle.script_program.specs.Program.{output_room};
 

@@ -1,4 +1,6 @@
 // The device record: its registers with their bits, masks and reset values, and what is built of it.
+#![tactic(auto)]
+
 pub mod answer;
 pub mod builders;
 pub mod numbers;

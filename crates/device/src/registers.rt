@@ -3,7 +3,7 @@ ghost use Rattle.std.specs.Prelude.{◌≡◌, ◌<◌, get_or};
 ghost use Rattle.device.specs.Registers.{resets, within_of};
 
 #[repr(C)]
-#[derive(Drop)]
+#[derive(Clone, Copy)]
 pub struct Nvmcon(pub u32);
 
 impl Nvmcon {
@@ -31,7 +31,7 @@ impl Nvmcon {
 }
 
 #[repr(C)]
-#[derive(Drop)]
+#[derive(Clone, Copy)]
 pub struct Nvmpwp(pub u32);
 
 impl Nvmpwp {
@@ -49,7 +49,7 @@ impl Nvmpwp {
 }
 
 #[repr(C)]
-#[derive(Drop)]
+#[derive(Clone, Copy)]
 pub struct Nvmbwp(pub u32);
 
 impl Nvmbwp {
@@ -74,7 +74,7 @@ impl Nvmbwp {
 }
 
 #[repr(C)]
-#[derive(Drop)]
+#[derive(Clone, Copy)]
 pub struct Nvmcon2(pub u32);
 
 impl Nvmcon2 {

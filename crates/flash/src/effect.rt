@@ -20,7 +20,7 @@ use words::quad::{is_blank, quad_at, quad_from};
 use words::word::has;
 
 // Whether the step aborts, and what it writes; the bank and the quad are those that it works on, also where it writes nothing.
-#[derive(Drop)]
+#[derive(Clone, Copy)]
 pub struct Effect {
     pub aborts: bool,
     pub write: Write,

@@ -21,7 +21,7 @@ use words::decline::Decline;
 use words::word::{clear, has};
 
 // What a step answers, and what it writes.
-#[derive(Drop)]
+#[derive(Clone, Copy)]
 pub struct StepEffect {
     pub answer: Answer,
     pub write: Write,

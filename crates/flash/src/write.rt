@@ -5,7 +5,7 @@ ghost use Rattle.flash.specs.Write.{no_write, one_after, two_after, Fits};
 use words::quad::put_quad;
 
 // Whether a quad is written, of which bank, where, and its words.
-#[derive(Drop)]
+#[derive(Clone, Copy)]
 pub struct Write {
     pub writes: bool,
     pub second: bool,

@@ -5,7 +5,7 @@ ghost use Rattle.geometry.specs.Banks.{boot_bytes_of, boot_words_of, boot_quads_
 
 // Q quads per row, B boot pages and P program pages per bank, as a caller lends them.
 #[repr(C)]
-#[derive(Drop)]
+#[derive(Clone, Copy)]
 pub struct Geometry {
     pub q: u32,
     pub b: u32,

@@ -9,7 +9,7 @@ use words::decline::Decline;
 pub const MOST_SRAM: usize = 16384;
 
 // The lengths of the banks and the image that a call is lent.
-#[derive(Drop)]
+#[derive(Clone, Copy)]
 pub enum Lent {
     Nothing,
     Bank(usize),

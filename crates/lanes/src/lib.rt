@@ -1,4 +1,6 @@
 // The way out to byte lanes and the way back, each in one pass over its source.
+#![tactic(auto)]
+
 ghost use Rattle.std.specs.Prelude.{◌≡◌, length};
 ghost use Rattle.lanes.specs.Lanes.{lanes_out_of, lanes_back_of, lanes_decline_of, target_of};
 

@@ -13,7 +13,7 @@ use nvmop::{begins, op};
 use words::word::{clear, has};
 
 // NVMCON after a launch, whether there was an event, and what the device holds as launched.
-#[derive(Drop)]
+#[derive(Clone, Copy)]
 pub struct Launched {
     pub nvmcon: u32,
     pub event: bool,

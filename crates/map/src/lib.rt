@@ -1,5 +1,7 @@
 // The four windows, and where an address stands in them.
 // What asks for InRange here is no call of the device: its callers ask in_range first.
+#![tactic(auto)]
+
 ghost use Rattle.std.specs.Prelude.{◌≡◌};
 ghost use Rattle.geometry.specs.Banks.{InRange};
 ghost use Rattle.map.specs.Windows.{window_start_of, window_bytes_of, nowhere, in_window_of, locate_of, page_of, word_index_of, quad_index_of, in_second_of};
@@ -15,7 +17,7 @@ pub const LOWER_PROGRAM: u32 = 0x1D00_0000;
 // Where an address stands: in a window of boot pages or, with program, of program pages, on the lower or, with upper,
 // the upper side, at an offset in bytes from the window's start. Outside all four, with inside false, the rest is false
 // and 0.
-#[derive(Drop)]
+#[derive(Clone, Copy)]
 pub struct Location {
     pub inside: bool,
     pub program: bool,

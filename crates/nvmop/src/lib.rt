@@ -1,5 +1,7 @@
 // The operation that NVMOP names: its target, whether its steps begin, and how many there are.
 // What asks for InRange here is no call of the device: its callers ask in_range first.
+#![tactic(auto)]
+
 ghost use Rattle.std.specs.Prelude.{◌≡◌};
 ghost use Rattle.geometry.specs.Banks.{InRange};
 ghost use Rattle.device.specs.Record.{op_of};

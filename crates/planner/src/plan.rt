@@ -8,7 +8,7 @@ use crate::windows::{WEEK, numbers_in_range, window_in_range};
 use words::decline::Decline;
 
 // The answer, and the wait: 0 where the plan is declined.
-#[derive(Drop)]
+#[derive(Clone, Copy)]
 pub struct Planned {
     pub decline: Decline,
     pub wait: u32,

@@ -1,4 +1,6 @@
 // Plays the service script of standard input after power_on_lem, and prints a line for each record.
+#![tactic(auto)]
+
 ghost use Rattle.std.specs.Prelude.{◌≤◌, length};
 ghost use Rattle.script_program.specs.Program.{output_room};
 

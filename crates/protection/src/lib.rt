@@ -1,4 +1,6 @@
 // Protected pages. Protection follows the mapping: it is by window, whichever bank stands there.
+#![tactic(auto)]
+
 ghost use Rattle.std.specs.Prelude.{◌≡◌, ◌<◌};
 ghost use Rattle.words.specs.Word.{pick};
 ghost use Rattle.geometry.specs.Banks.{InRange};

@@ -1,5 +1,7 @@
 // What two images differ in, and the place of the action that differs.
 // What asks for InRange or for lengths here is no call: reach judges its declines first.
+#![tactic(auto)]
+
 ghost use Rattle.std.specs.Prelude.{◌≡◌, ◌≤◌, ◌<◌, length};
 ghost use Rattle.geometry.specs.Banks.{InRange, bank_words_of};
 ghost use Rattle.update.specs.Actions.{bank_quads_of};
@@ -11,7 +13,7 @@ use sequence::sequence_quad;
 use words::decline::Decline;
 
 // How many words differ, and the lowest and the highest of them; all three 0 for equal images.
-#[derive(Drop)]
+#[derive(Clone, Copy)]
 pub struct Difference {
     pub count: u32,
     pub lowest: u32,
@@ -19,7 +21,7 @@ pub struct Difference {
 }
 
 // What a difference of two images reaches.
-#[derive(Drop)]
+#[derive(Clone, Copy)]
 pub enum ReachAnswer {
     // The action at a place differs, and no other.
     Action(u32),
@@ -31,7 +33,7 @@ pub enum ReachAnswer {
     Declined,
 }
 
-#[derive(Drop)]
+#[derive(Clone, Copy)]
 pub struct Reached {
     pub decline: Decline,
     pub answer: ReachAnswer,

@@ -1,4 +1,6 @@
 // Flash reads.
+#![tactic(auto)]
+
 ghost use Rattle.std.specs.Prelude.{◌≡◌, true, length};
 ghost use Rattle.geometry.specs.Banks.{InRange, bank_words_of};
 ghost use Rattle.map.specs.Windows.{locate_of};
@@ -23,7 +25,7 @@ use words::decline::Decline;
 use words::word::has;
 
 // The answer to a flash read. Where it is declined the word is 0, and the device and the banks are as before.
-#[derive(Drop)]
+#[derive(Clone, Copy)]
 pub struct FlashRead {
     pub decline: Decline,
     pub word: u32,
@@ -32,7 +34,7 @@ pub struct FlashRead {
 }
 
 // What the steps of a read that waits leave of the device, and whether the last of them gave an event.
-#[derive(Drop)]
+#[derive(Clone, Copy)]
 struct Waited {
     device: Device,
     event: bool,

@@ -1,4 +1,6 @@
 // Stores and register reads.
+#![tactic(auto)]
+
 ghost use Rattle.std.specs.Prelude.{◌≡◌};
 ghost use Rattle.geometry.specs.Banks.{InRange};
 ghost use Rattle.register_access.specs.Store.{has_form_of, may_store_of, store_decline_of, applied_of, store_accepted_of, store_of, read_decline_of, register_read_of};
@@ -20,7 +22,7 @@ use words::decline::Decline;
 use words::word::{has, merge};
 
 // The answer to a register read. Where it is declined the device is as before and the value is 0.
-#[derive(Drop)]
+#[derive(Clone, Copy)]
 pub struct RegisterRead {
     pub decline: Decline,
     pub value: u32,

@@ -1,4 +1,6 @@
 // What a store asks for, and which fields of a register take it: each condition is judged on the device before the store.
+#![tactic(auto)]
+
 ghost use Rattle.std.specs.Prelude.{◌≡◌};
 ghost use Rattle.register_fields.specs.Fields.{wanted_of, key_next_of, key_after_read_of, con_takes_of, pwp_takes_of};
 ghost use Rattle.register_fields.specs.Fields.{lower_takes_of, upper_takes_of, bwp_takes_of, keyed_takes_of, swaplock_takes_of, con2_takes_of};

@@ -1,4 +1,6 @@
 // Resets: the tear of a running step, the registers by kind, the comparison of the banks.
+#![tactic(auto)]
+
 ghost use Rattle.std.specs.Prelude.{◌≡◌, true, false, length};
 ghost use Rattle.std.specs.Int.Bits.{bit_or};
 ghost use Rattle.words.specs.Word.{pick};
@@ -31,7 +33,7 @@ pub const BROWN_OUT_RESET: u32 = 1;
 pub const OTHER_RESET: u32 = 2;
 
 // The answer to a reset, with the reason of its comparison. Where it is declined the device and the banks are as before.
-#[derive(Drop)]
+#[derive(Clone, Copy)]
 pub struct Restarted {
     pub decline: Decline,
     pub device: Device,

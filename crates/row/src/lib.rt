@@ -1,1 +1,2 @@
 // What holds of every list of calls for a row of signs. No functions.
+#![tactic(auto)]

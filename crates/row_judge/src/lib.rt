@@ -1,5 +1,7 @@
 // Decline 19: whether a row, its queue and its store can be served.
 // What asks for InRange or for room here is no call of the row: row_decline judges these first.
+#![tactic(auto)]
+
 ghost use Rattle.std.specs.Prelude.{◌≡◌, ◌≤◌, ◌<◌, eqb, length, get_or};
 ghost use Rattle.words.specs.Word.{any_below};
 ghost use Rattle.geometry.specs.Banks.{InRange};

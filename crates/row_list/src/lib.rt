@@ -1,4 +1,6 @@
 // A lent list of records: gathered by value, and one record kept. The functions with the list are walked.
+#![tactic(auto)]
+
 ghost use Rattle.std.specs.Prelude.{◌≡◌, ◌≤◌, length, set};
 ghost use Rattle.row_list.specs.List.{at_most, gathered};
 

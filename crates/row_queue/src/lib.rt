@@ -1,5 +1,7 @@
 // The queue of a row: an entry joins it, and one leaves it.
 // What asks for room here is no call of the row: schedule_row judges decline 19 first.
+#![tactic(auto)]
+
 ghost use Rattle.std.specs.Prelude.{◌≡◌, [], ◌≤◌, ◌<◌};
 ghost use Rattle.row_signs.specs.Signs.{queue_of};
 ghost use Rattle.row_queue.specs.Waiting.{joined, without_of};

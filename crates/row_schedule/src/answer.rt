@@ -9,7 +9,7 @@ use words::decline::Decline;
 
 // What a call answers: beside a decline queue and last served are as handed over.
 #[repr(C)]
-#[derive(Drop)]
+#[derive(Clone, Copy)]
 pub struct ScheduleAnswer {
     pub decline: u32,
     pub idle: bool,
@@ -20,7 +20,7 @@ pub struct ScheduleAnswer {
 }
 
 // The one record that a call puts back, its number past the list where there is none; and the answer.
-#[derive(Drop)]
+#[derive(Clone, Copy)]
 pub struct Scheduled {
     pub number: usize,
     pub sign: Sign,

@@ -18,7 +18,7 @@ use row_turn::look_at;
 use words::word::has;
 
 // The record that is served, the number of records where nobody is; and who waits then.
-#[derive(Drop)]
+#[derive(Clone, Copy)]
 pub struct Choice {
     pub served: usize,
     pub queue: Queue,

@@ -1,5 +1,7 @@
 // One call for a row of signs, its records by value.
 // What asks for a sound row or queue in this crate is no call of the row: schedule_row judges 1, 2 and 19 first.
+#![tactic(auto)]
+
 pub mod answer;
 mod choice;
 mod round;

@@ -15,14 +15,14 @@ use row_signs::sign::Sign;
 use row_turn::look_at;
 
 // Whether a record is free to be served or to wait, and whether it would have to wait.
-#[derive(Drop)]
+#[derive(Clone, Copy)]
 pub struct Stand {
     pub free: bool,
     pub held: bool,
 }
 
 // The record that the search serves, the number of records where it serves none; and which begin to wait.
-#[derive(Drop)]
+#[derive(Clone, Copy)]
 pub struct Search {
     pub found: usize,
     pub begins: [bool; 32],

@@ -4,7 +4,7 @@ ghost use Rattle.row_signs.specs.Signs.{no_signs, with_sign};
 
 use crate::sign::{Sign, no_sign};
 
-#[derive(Drop)]
+#[derive(Clone, Copy)]
 pub struct Row {
     pub signs: [Sign; 32],
 }

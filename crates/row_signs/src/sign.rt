@@ -7,7 +7,7 @@ use device::record::Device;
 
 // The device, the place in the update, and where the two banks start in the store.
 #[repr(C)]
-#[derive(Drop)]
+#[derive(Clone, Copy)]
 pub struct Sign {
     pub device: Device,
     pub place: u32,

@@ -1,5 +1,7 @@
 // The turn of one sign of a row, over its two parts of the store.
 // What asks for InRange and Lies here is no call of the row: its callers judge 1, 2 and 19 first.
+#![tactic(auto)]
+
 ghost use Rattle.std.specs.Prelude.{◌≡◌, not, ◌&&◌, ◌⊎◌, ◌+◌, ◌≤◌, length};
 ghost use Rattle.words.specs.Decline.{accepted_of};
 ghost use Rattle.device.specs.Record.{running};
@@ -20,14 +22,14 @@ use words::quad::put_quad;
 use words::word::has;
 
 // Whether a sign's turn is neither declined nor done, and whether it would set WR.
-#[derive(Drop)]
+#[derive(Clone, Copy)]
 pub struct Look {
     pub can: bool,
     pub sets: bool,
 }
 
 // A sign's record after its turn, and the turn's event.
-#[derive(Drop)]
+#[derive(Clone, Copy)]
 pub struct SignTurned {
     pub sign: Sign,
     pub event: bool,

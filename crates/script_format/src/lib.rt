@@ -1,11 +1,13 @@
 // Records of 8 bytes, read and written, and decline 14.
 // What asks for a whole record, or for room for one, is no call of the script: its callers count the records first.
+#![tactic(auto)]
+
 ghost use Rattle.std.specs.Prelude.{◌≡◌, ◌+◌, ◌*◌, ◌≤◌, ◌<◌, length};
 ghost use Rattle.std.proofs.lemmas.List.Edits.{sets};
 ghost use Rattle.script_format.specs.Records.{byte_of, value_of, record_of, low_bytes, bytes_of, is_store_of, is_step_of, is_reset_of, is_record_of, is_script_of};
 
 // What the bytes of a record say. `number` is the register of a store and the kind of a reset.
-#[derive(Drop)]
+#[derive(Clone, Copy)]
 pub struct Record {
     pub kind: u32,
     pub number: u32,

@@ -1,4 +1,6 @@
 // Playing a script on lent banks.
+#![tactic(auto)]
+
 ghost use Rattle.std.specs.Prelude.{◌≡◌};
 ghost use Rattle.device.specs.State.{lent};
 ghost use Rattle.script_play.specs.Play.{play_decline_of, playback, played_of, play_of, play_length_of};
@@ -14,7 +16,7 @@ use words::decline::Decline;
 
 // The answer to a play, and the bytes of its whole output: where the buffer is shorter, it holds the output's front.
 // Where the play is declined everything is as before.
-#[derive(Drop)]
+#[derive(Clone, Copy)]
 pub struct Played {
     pub decline: Decline,
     pub bytes: usize,
@@ -22,7 +24,7 @@ pub struct Played {
 }
 
 // The answer that a play will give, and the bytes of its whole output.
-#[derive(Drop)]
+#[derive(Clone, Copy)]
 pub struct PlayLength {
     pub decline: Decline,
     pub bytes: usize,

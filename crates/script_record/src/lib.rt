@@ -1,4 +1,6 @@
 // Playing one record on lent banks.
+#![tactic(auto)]
+
 ghost use Rattle.std.specs.Prelude.{◌≡◌};
 ghost use Rattle.device.specs.State.{lent, leaves};
 ghost use Rattle.script_record.specs.Record.{record_after_of};

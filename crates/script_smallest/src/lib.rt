@@ -1,5 +1,7 @@
 // The smallest script that shows a decline: one of which no record can go.
 // What asks for lengths here is no call of the script: its callers judge them first.
+#![tactic(auto)]
+
 ghost use Rattle.std.specs.Prelude.{◌≡◌, ◌++◌, ◌*◌, ◌+◌, ◌%◌, ◌≤◌, ◌<◌, length, get_or, take, replicate};
 ghost use Rattle.script_format.specs.Records.{record_of, records_of};
 ghost use Rattle.device.specs.State.{lent};
@@ -21,7 +23,7 @@ const RECORD_BYTES: usize = 8;
 const MOST_RECORDS: usize = 64;
 
 // The answer, and how many records the result has: 0 where the call is declined.
-#[derive(Drop)]
+#[derive(Clone, Copy)]
 pub struct SmallestScript {
     pub decline: Decline,
     pub records: u32,

@@ -1,5 +1,7 @@
 // The script of an update, written into a lent buffer.
 // What asks for InRange or for room here is no call of the script: its callers ask first.
+#![tactic(auto)]
+
 ghost use Rattle.std.specs.Prelude.{◌≡◌, ◌*◌, ◌≤◌, length};
 ghost use Rattle.std.proofs.lemmas.List.Edits.{sets};
 ghost use Rattle.geometry.specs.Banks.{InRange, bank_words_of};
@@ -20,7 +22,7 @@ use words::decline::Decline;
 const RECORD_BYTES: usize = 8;
 
 // The answer, and how many records were written: 0 where the call is declined.
-#[derive(Drop)]
+#[derive(Clone, Copy)]
 pub struct ScriptWritten {
     pub decline: Decline,
     pub records: u32,

@@ -4,7 +4,7 @@ ghost use Rattle.sequence.specs.Comparison.{reason_number_of, compare_of};
 
 use crate::{is_valid, tseq};
 
-#[derive(Drop)]
+#[derive(Clone, Copy)]
 pub enum Reason {
     // 0: both words are valid, and the higher T goes lower.
     Higher,
@@ -34,7 +34,7 @@ impl Reason {
 }
 
 // Whether bank 2 goes lower, as a reset then sets BFSWAP, and why.
-#[derive(Drop)]
+#[derive(Clone, Copy)]
 pub struct Comparison {
     pub second: bool,
     pub reason: Reason,

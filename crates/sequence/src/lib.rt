@@ -1,5 +1,7 @@
 // The sequence word of a bank: TSEQ, its low half, and CSEQ, its high half.
 // What asks for InRange here is no call of the device: its callers ask in_range first.
+#![tactic(auto)]
+
 ghost use Rattle.std.specs.Prelude.{◌≡◌, ◌<◌};
 ghost use Rattle.geometry.specs.Banks.{InRange};
 ghost use Rattle.sequence.specs.Sequence.{sequence_quad_of, sequence_index_of, tseq_of, cseq_of, complement_of, valid_of};

@@ -1,5 +1,7 @@
 // The page sheet in a lent buffer.
 // What asks for InRange or for room here is no call of the device: its callers ask first.
+#![tactic(auto)]
+
 ghost use Rattle.std.specs.Prelude.{◌≡◌, ◌+◌, ◌*◌, ◌≤◌, length};
 ghost use Rattle.std.proofs.lemmas.List.Edits.{sets};
 ghost use Rattle.geometry.specs.Banks.{InRange, pages_of, bank_words_of};
@@ -15,7 +17,7 @@ use sheet_page::{kind_pages, page_state};
 use words::decline::Decline;
 
 // The answer to the request, and the bytes of the sheet: 0 where it is declined.
-#[derive(Drop)]
+#[derive(Clone, Copy)]
 pub struct Written {
     pub decline: Decline,
     pub bytes: usize,

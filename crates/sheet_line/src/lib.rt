@@ -1,5 +1,7 @@
 // The line of a page. What asks for room or for a small number here is a helper for the sheet, whose call asks for
 // nothing.
+#![tactic(auto)]
+
 ghost use Rattle.std.specs.Prelude.{◌≡◌, ◌+◌, ◌≤◌, ◌<◌, length, replicate};
 ghost use Rattle.std.proofs.lemmas.List.Edits.{sets};
 ghost use Rattle.text.specs.Digits.{width_of};

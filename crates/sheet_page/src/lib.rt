@@ -1,5 +1,7 @@
 // What the sheet says of a page.
 // What asks for InRange here is no call of the device: its callers ask in_range first.
+#![tactic(auto)]
+
 ghost use Rattle.std.specs.Prelude.{◌≡◌, ◌+◌, ◌*◌, ◌≤◌, ◌<◌, length};
 ghost use Rattle.geometry.specs.Banks.{InRange, bank_words_of};
 ghost use Rattle.sheet_page.specs.State.{used_of, used_quads_of, swap_of, upper_of, kind_pages_of, page_index_of, page_state_of};
@@ -13,7 +15,7 @@ use words::word::has;
 
 // A page of bank 1 or, with second, bank 2: boot or, with program, program; its number of its kind from 0; on the lower
 // or, with upper, the upper side; whether it is protected; how many of its quads are not all ones.
-#[derive(Drop)]
+#[derive(Clone, Copy)]
 pub struct PageState {
     pub second: bool,
     pub program: bool,

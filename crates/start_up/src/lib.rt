@@ -1,4 +1,6 @@
 // Start-up: what the boot code stores after a reset.
+#![tactic(auto)]
+
 ghost use Rattle.std.specs.Prelude.{◌≡◌};
 ghost use Rattle.start_up.specs.StartUp.{start_up_decline_of, unlocked_of, swapped_of, start_up_of};
 
@@ -13,7 +15,7 @@ use words::decline::Decline;
 use words::word::has;
 
 // The answer to a start-up. Where it is declined the device is as before.
-#[derive(Drop)]
+#[derive(Clone, Copy)]
 pub struct StartedUp {
     pub decline: Decline,
     pub device: Device,

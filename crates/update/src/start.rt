@@ -2,7 +2,7 @@
 use words::decline::Decline;
 
 // The answer to an update start: the first place and the total, 0 where it is declined.
-#[derive(Drop)]
+#[derive(Clone, Copy)]
 pub struct Started {
     pub decline: Decline,
     pub place: u32,

@@ -4,7 +4,7 @@ use flash::write::Write;
 use words::decline::Decline;
 
 // The answer to a turn. Where it is declined, and at the total, everything is as before.
-#[derive(Drop)]
+#[derive(Clone, Copy)]
 pub struct Turned {
     pub decline: Decline,
     pub done: bool,
@@ -14,7 +14,7 @@ pub struct Turned {
 }
 
 // The answer, and at most one quad to write.
-#[derive(Drop)]
+#[derive(Clone, Copy)]
 pub struct TurnEffect {
     pub turned: Turned,
     pub write: Write,

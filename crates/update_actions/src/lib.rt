@@ -1,4 +1,6 @@
 // The firmware updater's actions, by place.
+#![tactic(auto)]
+
 pub mod actions;
 pub mod lower_word;
 mod programming;

@@ -1,4 +1,6 @@
 // One turn of an update: from both banks its effect, and then the one write.
+#![tactic(auto)]
+
 ghost use Rattle.std.specs.Prelude.{◌≡◌, true, false, ◌+◌, ◌≤◌, ◌<◌, length};
 ghost use Rattle.geometry.specs.Lent.{most_sram};
 ghost use Rattle.geometry.specs.Banks.{in_range_of, bank_words_of};

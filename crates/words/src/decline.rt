@@ -2,7 +2,7 @@
 ghost use Rattle.std.specs.Prelude.{◌≡◌};
 ghost use Rattle.words.specs.Decline.{number_of, accepted_of};
 
-#[derive(Drop)]
+#[derive(Clone, Copy)]
 pub enum Decline {
     // 0: the call is not declined.
     Accepted,

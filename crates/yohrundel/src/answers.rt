@@ -3,7 +3,7 @@ use device::record::Device;
 
 // The answer to a store and to a step.
 #[repr(C)]
-#[derive(Drop)]
+#[derive(Clone, Copy)]
 pub struct EventAnswer {
     pub decline: u32,
     pub event: bool,
@@ -12,7 +12,7 @@ pub struct EventAnswer {
 
 // The answer to a start-up.
 #[repr(C)]
-#[derive(Drop)]
+#[derive(Clone, Copy)]
 pub struct DeviceAnswer {
     pub decline: u32,
     pub device: Device,
@@ -20,7 +20,7 @@ pub struct DeviceAnswer {
 
 // The answer to a reset; the reason of its comparison by number, 4 where it is declined.
 #[repr(C)]
-#[derive(Drop)]
+#[derive(Clone, Copy)]
 pub struct ResetAnswer {
     pub decline: u32,
     pub reason: u32,
@@ -29,14 +29,14 @@ pub struct ResetAnswer {
 
 // The bank that the comparison puts lower, 1 or 2, and why, by number.
 #[repr(C)]
-#[derive(Drop)]
+#[derive(Clone, Copy)]
 pub struct CompareAnswer {
     pub bank: u32,
     pub reason: u32,
 }
 
 #[repr(C)]
-#[derive(Drop)]
+#[derive(Clone, Copy)]
 pub struct RegisterReadAnswer {
     pub decline: u32,
     pub value: u32,
@@ -44,7 +44,7 @@ pub struct RegisterReadAnswer {
 }
 
 #[repr(C)]
-#[derive(Drop)]
+#[derive(Clone, Copy)]
 pub struct FlashReadAnswer {
     pub decline: u32,
     pub word: u32,
@@ -54,7 +54,7 @@ pub struct FlashReadAnswer {
 
 // The number of the bank on the lower alias, 1 or 2, and how many words it has; both 0 where the request is declined.
 #[repr(C)]
-#[derive(Drop)]
+#[derive(Clone, Copy)]
 pub struct LowerBankAnswer {
     pub decline: u32,
     pub bank: u32,
@@ -63,7 +63,7 @@ pub struct LowerBankAnswer {
 
 // The word of the lent bank at which a page starts, and how many words it has; both 0 where the request is declined.
 #[repr(C)]
-#[derive(Drop)]
+#[derive(Clone, Copy)]
 pub struct PageAnswer {
     pub decline: u32,
     pub offset: usize,
@@ -72,13 +72,13 @@ pub struct PageAnswer {
 
 // The four words of a torn mask.
 #[repr(C)]
-#[derive(Drop)]
+#[derive(Clone, Copy)]
 pub struct Mask {
     pub words: [u32; 4],
 }
 
 #[repr(C)]
-#[derive(Drop)]
+#[derive(Clone, Copy)]
 pub struct UpdateStartAnswer {
     pub decline: u32,
     pub place: u32,
@@ -87,7 +87,7 @@ pub struct UpdateStartAnswer {
 
 // The bytes of the whole output: a shorter buffer holds the output's front.
 #[repr(C)]
-#[derive(Drop)]
+#[derive(Clone, Copy)]
 pub struct PlayAnswer {
     pub decline: u32,
     pub bytes: usize,
@@ -95,35 +95,35 @@ pub struct PlayAnswer {
 }
 
 #[repr(C)]
-#[derive(Drop)]
+#[derive(Clone, Copy)]
 pub struct PlayLengthAnswer {
     pub decline: u32,
     pub bytes: usize,
 }
 
 #[repr(C)]
-#[derive(Drop)]
+#[derive(Clone, Copy)]
 pub struct PlanAnswer {
     pub decline: u32,
     pub wait: u32,
 }
 
 #[repr(C)]
-#[derive(Drop)]
+#[derive(Clone, Copy)]
 pub struct PageSheetAnswer {
     pub decline: u32,
     pub bytes: usize,
 }
 
 #[repr(C)]
-#[derive(Drop)]
+#[derive(Clone, Copy)]
 pub struct WriteScriptAnswer {
     pub decline: u32,
     pub records: u32,
 }
 
 #[repr(C)]
-#[derive(Drop)]
+#[derive(Clone, Copy)]
 pub struct SmallestAnswer {
     pub decline: u32,
     pub records: u32,
@@ -132,7 +132,7 @@ pub struct SmallestAnswer {
 // What two images differ in: the kind of the answer by its number, then the place of the action that differs, or the differing words.
 // What a kind does not use is 0.
 #[repr(C)]
-#[derive(Drop)]
+#[derive(Clone, Copy)]
 pub struct ReachResult {
     pub decline: u32,
     pub kind: u32,

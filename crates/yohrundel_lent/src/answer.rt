@@ -9,7 +9,7 @@ use update_turn::turn;
 
 // What a turn tells beside the device.
 #[repr(C)]
-#[derive(Drop)]
+#[derive(Clone, Copy)]
 pub struct TurnOutcome {
     pub decline: u32,
     pub place: u32,
@@ -18,7 +18,7 @@ pub struct TurnOutcome {
 }
 
 #[repr(C)]
-#[derive(Drop)]
+#[derive(Clone, Copy)]
 pub struct TurnAnswer {
     pub device: Device,
     pub outcome: TurnOutcome,

@@ -1,4 +1,6 @@
 // The call with a lent list of records, for programs in other languages: walked.
+#![tactic(auto)]
+
 ghost use Rattle.std.specs.Prelude.{◌≡◌};
 ghost use Rattle.yohrundel_row.specs.Schedule.{rowed, schedule_of};
 
