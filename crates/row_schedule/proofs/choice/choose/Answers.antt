@@ -39,6 +39,7 @@ returns c =
     let full = is_full a.g a.k a.row.signs a.n a.queue a.last a.store.now a.image.now a.sram.now _ c.set_count.ensures in
     let inside : c.first_ready-p.result < a.queue.count = omega arith in
     let some =
-    ready_some a.g a.k a.row.signs a.n a.queue a.last a.store.now a.image.now a.sram.now (full ∙ lt-leb _ _ c.if-full.false) _ c.first_ready-p.ensures inside in
+    ready_some a.g a.k a.row.signs a.n a.queue a.last a.store.now a.image.now a.sram.now (full ∙ lt-leb _ _ c.if-full.false) _
+    c.first_ready-p.ensures inside in
     ap (λ (q : Queue). record { served = get_or a.queue.numbers c.first_ready-p.result 0; queue = q }) c.without.ensures
     ∙ by_queue a.g a.k a.row.signs a.n a.queue a.last a.store.now a.image.now a.sram.now some _ c.first_ready-p.ensures inside
