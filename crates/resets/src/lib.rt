@@ -8,7 +8,7 @@ ghost use Rattle.device.specs.Registers.{BFSWAP};
 ghost use Rattle.geometry.specs.Banks.{InRange, bank_words_of};
 ghost use Rattle.common_declines.specs.Possible.{possible_of};
 ghost use Rattle.flash.specs.Effect.{Runs, effect_of};
-ghost use Rattle.device.specs.State.{lent, after};
+ghost use Rattle.device.specs.State.{state, lent, after};
 ghost use Rattle.resets.specs.Reset.{reset_decline_of, torn_of, tear_of, comparison_of, reset_con_of, reset_device_of, explained, explained_of};
 
 use common_declines::common_decline::common_decline;
@@ -81,7 +81,7 @@ fn tear(g: Geometry, d: Device, one: &mut [u32], two: &mut [u32], sram: &[u32], 
     requires in_range { InRange g }
     requires d_value { possible_of g d ≡ true }
     requires one_len { (length one.old ≡ bank_words_of g) × (length two.old ≡ bank_words_of g) }
-    ensures { lent d one.exit two.exit ≡ tear_of g (lent d one.entry two.entry) sram.now mask }
+    ensures { state d one.new two.new ≡ tear_of g (state d one.old two.old) sram.now mask }
 {
     if !has(d.nvmcon.0, Nvmcon::WR) {
         return;
@@ -149,7 +149,7 @@ fn reset_device(d: Device, kind: u32, swap: bool) -> Device
     with_launched(with_con(e, con, 0, 0), no_operands())
 }
 
-// A reset: kind 0 power_on_lem, 1 brown_out, 2 other.
+// A reset: kind 0 power-on, 1 brown-out, 2 other.
 #[tactic(auto, unfolding(crate::specs::Reset::explained_of))]
 pub fn reset(
     g: Geometry,
@@ -160,8 +160,8 @@ pub fn reset(
     kind: u32,
     mask: [u32; 4],
 ) -> Restarted
-    ensures { explained (after result.decline (lent result.device one.exit two.exit) false) result.reason
-        ≡ explained_of g (lent d one.entry two.entry) sram.now kind mask }
+    ensures { explained (after result.decline (state result.device one.new two.new) false) result.reason
+        ≡ explained_of g (state d one.old two.old) sram.now kind mask }
 {
     let decline = reset_decline(g, d, one.len(), two.len(), sram.len(), kind);
     if !decline.is_accepted() {
