@@ -2,7 +2,6 @@
 use Rattle.std.proofs.Common.{arith, sym, ap, ◌∙◌}
 use Rattle.words.specs.Decline.{accepted_of}
 use Rattle.common_declines.proofs.CommonDeclineLaws.{ready}
-use Rattle.update.specs.Turn.{Formed}
 use Rattle.update.proofs.FormLaws.{actions_formed, total_high}
 use Rattle.update_turn.proofs.turn_effect.Goals as goal
 
