@@ -1,6 +1,5 @@
 -- The fields of NVMCON that other rules ask for, by the numbers of their bits. Assumes nothing.
 use mathlib.Core.Path.{◌≡◌, refl, sym, ap, ◌∙◌}
-use Prim.Native.Nat.{ℕ}
 use Rattle.words.specs.Word.{bit}
 use Rattle.words.proofs.BitLaws.{has_bit}
 use Rattle.device.specs.declared.record.Device.{Device}

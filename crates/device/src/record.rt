@@ -34,6 +34,7 @@ pub struct Device {
 }
 
 // A register by its number, and 0 where there is none.
+#[tactic(auto, unfolding(crate::specs::Record::register_of))]
 pub fn register(d: Device, number: u32) -> u32
     ensures { result ≡ register_of d number }
 {

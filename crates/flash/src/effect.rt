@@ -38,6 +38,7 @@ fn inside(program: bool, upper: bool, offset: u32) -> Location
 }
 
 // Where the quad of the next step stands.
+#[tactic(auto, unfolding(crate::specs::Effect::step_at_of))]
 pub fn step_location(g: Geometry, d: Device) -> Location
     requires { Runs g d }
     ensures { result ≡ step_location_of g d }
@@ -64,6 +65,7 @@ pub fn step_location(g: Geometry, d: Device) -> Location
 }
 
 // Whether that quad is in a protected boot page.
+#[tactic(auto, unfolding(crate::specs::Effect::blocked_of))]
 fn is_blocked(g: Geometry, d: Device, l: Location) -> bool
     requires in_range { InRange g }
     requires offset_bound { l.offset + 16 ≤ window_bytes_of g l.program }
@@ -83,6 +85,7 @@ fn source_word(d: Device) -> usize
 }
 
 // Whether a row's data is aligned and lies in the SRAM.
+#[tactic(auto, unfolding(crate::specs::Effect::source_fits_of))]
 fn source_fits(d: Device, sram: usize) -> bool
     ensures { result ≡ source_fits_of d sram }
 {
@@ -104,6 +107,7 @@ pub fn old_quad(one: &[u32], two: &[u32], second: bool, quad: u32) -> [u32; 4]
 }
 
 // What the next step does to a quad that is not in a protected boot page.
+#[tactic(auto, unfolding(crate::specs::Effect::effect_at_of))]
 fn effect_at(d: Device, sram: &[u32], second: bool, quad: u32, old: [u32; 4]) -> Effect
     ensures { result ≡ effect_at_of d sram.now second quad old }
 {
@@ -139,6 +143,7 @@ fn doing(aborts: bool, writes: bool, second: bool, quad: u32, intended: [u32; 4]
 }
 
 // What the next step of the running operation does.
+#[tactic(auto, unfolding(crate::specs::Effect::effect_of))]
 pub fn next_effect(g: Geometry, d: Device, one: &[u32], two: &[u32], sram: &[u32]) -> Effect
     requires runs { Runs g d }
     requires one_len { (length one.now ≡ bank_words_of g) × (length two.now ≡ bank_words_of g) }

@@ -27,6 +27,7 @@ pub struct StepEffect {
     pub write: Write,
 }
 
+#[tactic(auto, unfolding(crate::specs::Step::step_decline_of))]
 fn step_decline(g: Geometry, d: Device, one: usize, two: usize, sram: usize) -> Decline
     ensures { result ≡ step_decline_of g d one two sram }
 {
@@ -48,6 +49,7 @@ fn ended(d: Device, con: u32) -> Device
 }
 
 // The answer of a step that aborts or not.
+#[tactic(auto, unfolding(crate::specs::Step::advance_of))]
 fn advance(g: Geometry, d: Device, aborts: bool) -> Answer
     requires { Runs g d }
     ensures { result ≡ advance_of g d aborts }
@@ -88,6 +90,7 @@ pub fn step_effect(g: Geometry, d: Device, one: &[u32], two: &[u32], sram: &[u32
 }
 
 // A step that is not declined, with its write, for a flash read that waits. No call of the device: its callers judge the declines first.
+#[tactic(auto, unfolding(crate::specs::Step::step_of))]
 pub fn step_accepted(
     g: Geometry,
     d: Device,
@@ -105,6 +108,7 @@ pub fn step_accepted(
 }
 
 // One step of the running operation.
+#[tactic(auto, unfolding(crate::specs::Step::step_of))]
 pub fn step(g: Geometry, d: Device, one: &mut [u32], two: &mut [u32], sram: &[u32]) -> Answer
     ensures { leaves result one.exit two.exit ≡ step_of g (lent d one.entry two.entry) sram.now }
 {

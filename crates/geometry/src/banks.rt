@@ -17,6 +17,7 @@ pub const MOST_BOOT_PAGES: u32 = 5;
 pub const MOST_PROGRAM_PAGES: u32 = 128;
 
 // Whether Q is in its list.
+#[tactic(auto, unfolding(crate::specs::Banks::listed_of))]
 fn is_listed(q: u32) -> bool
     ensures { result ≡ listed_of q }
 {
@@ -27,6 +28,7 @@ fn is_listed(q: u32) -> bool
 }
 
 // Whether decline 1 does not apply.
+#[tactic(auto, unfolding(crate::specs::Banks::in_range_up_to))]
 pub fn in_range(g: Geometry) -> bool
     ensures { result ≡ in_range_of g }
 {

@@ -18,6 +18,7 @@ pub enum Lent {
 }
 
 // Whether decline 2 does not apply. No call of the device: lent_decline asks in_range first.
+#[tactic(auto, unfolding(crate::specs::Lent::lengths_fit_of))]
 fn lengths_fit(g: Geometry, lent: Lent, sram: usize) -> bool
     requires { InRange g }
     ensures { result ≡ lengths_fit_of g (lengths_of lent) sram }
@@ -57,6 +58,7 @@ fn lengths_fit(g: Geometry, lent: Lent, sram: usize) -> bool
 }
 
 // Which of declines 1 and 2 applies to a geometry, banks and an SRAM of these lengths.
+#[tactic(auto, unfolding(crate::specs::Lent::lent_decline_up_to))]
 pub fn lent_decline(g: Geometry, lent: Lent, sram: usize) -> Decline
     ensures { result ≡ lent_decline_of g (lengths_of lent) sram }
 {

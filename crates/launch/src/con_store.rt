@@ -12,6 +12,7 @@ use register_fields::con_takes;
 use words::word::{has, merge};
 
 // Whether a store to NVMCON launches.
+#[tactic(auto, unfolding(crate::specs::ConStore::launches_of))]
 fn launches(d: Device, w: u32) -> bool
     ensures { result ≡ launches_of d w }
 {
@@ -25,6 +26,7 @@ fn launches(d: Device, w: u32) -> bool
 }
 
 // NVMCON after a store, whether there was an event, and what is launched.
+#[tactic(auto, unfolding(crate::specs::ConStore::con_store_of))]
 pub fn con_store(g: Geometry, d: Device, w: u32) -> Launched
     requires { InRange g }
     ensures { result ≡ con_store_of g d w }

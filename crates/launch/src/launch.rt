@@ -21,6 +21,7 @@ pub struct Launched {
 }
 
 // The launch by a store whose fields the device has taken.
+#[tactic(auto, unfolding(crate::specs::Launch::launch_of))]
 pub fn launch(g: Geometry, d: Device) -> Launched
     requires { InRange g }
     ensures { result ≡ launch_of g d }

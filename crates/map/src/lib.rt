@@ -65,6 +65,7 @@ fn outside() -> Location
 }
 
 // Where an address stands in one window.
+#[tactic(auto, unfolding(crate::specs::Windows::in_window_of))]
 fn in_window(g: Geometry, program: bool, upper: bool, address: u32) -> Location
     requires { InRange g }
     ensures { result ≡ in_window_of g program upper address }
@@ -86,6 +87,7 @@ fn in_window(g: Geometry, program: bool, upper: bool, address: u32) -> Location
 }
 
 // Where an address stands in the four windows.
+#[tactic(auto, unfolding(crate::specs::Windows::locate_of))]
 pub fn locate(g: Geometry, address: u32) -> Location
     requires { InRange g }
     ensures { result ≡ locate_of g address }

@@ -23,6 +23,7 @@ pub fn op(d: Device) -> u32
 }
 
 // What NVMADDR is rounded down to: a quad, a row or a page.
+#[tactic(auto, unfolding(crate::specs::Operation::unit_of))]
 pub fn unit(g: Geometry, op: u32) -> u32
     requires { InRange g }
     ensures { result ≡ unit_of g op }
@@ -37,6 +38,7 @@ pub fn unit(g: Geometry, op: u32) -> u32
 }
 
 // Where NVMOP 2, 3 and 4 begin.
+#[tactic(auto, unfolding(crate::specs::Operation::target_of))]
 pub fn target(g: Geometry, op: u32, address: u32) -> Location
     requires { InRange g }
     ensures { result ≡ target_of g op address }
@@ -44,6 +46,7 @@ pub fn target(g: Geometry, op: u32, address: u32) -> Location
     locate(g, round_down(address, unit(g, op)))
 }
 
+#[tactic(auto, unfolding(crate::specs::Operation::target_begins_of))]
 fn target_begins(g: Geometry, op: u32, address: u32, last: u32) -> bool
     requires { InRange g }
     ensures { result ≡ target_begins_of g last (target_of g op address) }
@@ -59,6 +62,7 @@ fn target_begins(g: Geometry, op: u32, address: u32, last: u32) -> bool
 }
 
 // A region has a protected page where its first page is protected.
+#[tactic(auto, using(crate::proofs::OperationLaws::region_first))]
 fn region_begins(g: Geometry, last: u32, upper: bool) -> bool
     requires { InRange g }
     ensures { result ≡ region_begins_of g last upper }
@@ -67,6 +71,7 @@ fn region_begins(g: Geometry, last: u32, upper: bool) -> bool
 }
 
 // Whether the launch of an NVMOP begins steps, by its address and by PWP.
+#[tactic(auto, unfolding(crate::specs::Operation::begins_at_of))]
 fn begins_at(g: Geometry, op: u32, address: u32, last: u32) -> bool
     requires { InRange g }
     ensures { result ≡ begins_at_of g op address last }
@@ -106,6 +111,7 @@ pub fn launched_begins(g: Geometry, d: Device) -> bool
 }
 
 // The number of steps.
+#[tactic(auto, unfolding(crate::specs::Operation::length_of))]
 pub fn length(g: Geometry, op: u32) -> u32
     requires { InRange g }
     ensures { result ≡ length_of g op }

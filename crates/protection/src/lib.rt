@@ -17,6 +17,7 @@ pub fn pwp(d: Device) -> u32
 }
 
 // Whether PWP protects the program page that starts at this offset from 0x1D000000.
+#[tactic(auto, unfolding(crate::specs::Protection::program_protected_of))]
 fn is_program_protected(last: u32, offset: u32) -> bool
     ensures { result ≡ program_protected_of last offset }
 {
@@ -59,6 +60,7 @@ pub fn is_page_protected(g: Geometry, last: u32, upper: bool, page: u32) -> bool
 }
 
 // Whether a page of a window is protected. No call of the device: callers show that there is such a page.
+#[tactic(auto, unfolding(crate::specs::Protection::protected_of))]
 pub fn is_protected(g: Geometry, d: Device, program: bool, upper: bool, page: u32) -> bool
     requires in_range { InRange g }
     requires page_bound { page < pick program g.p g.b }

@@ -30,6 +30,7 @@ pub struct RegisterRead {
 }
 
 // Whether there is such a register and it has such a form.
+#[tactic(auto, unfolding(crate::specs::Store::has_form_of))]
 fn has_form(number: u32, form: u32) -> bool
     ensures { result ≡ has_form_of number form }
 {
@@ -46,6 +47,7 @@ fn has_form(number: u32, form: u32) -> bool
 }
 
 // Whether decline 5 does not apply to a store. No call of the device.
+#[tactic(auto, unfolding(crate::specs::Store::may_store_of))]
 pub fn may_store(d: Device, number: u32) -> bool
     ensures { result ≡ may_store_of d number }
 {
@@ -58,6 +60,7 @@ pub fn may_store(d: Device, number: u32) -> bool
     number <= NVMSRCADDR
 }
 
+#[tactic(auto, unfolding(crate::specs::Store::store_decline_of))]
 fn store_decline(g: Geometry, d: Device, number: u32, form: u32) -> Decline
     ensures { result ≡ store_decline_of g d number form }
 {
@@ -75,6 +78,7 @@ fn store_decline(g: Geometry, d: Device, number: u32, form: u32) -> Decline
 }
 
 // The device after a store to another register than NVMCON.
+#[tactic(auto, unfolding(crate::specs::Store::applied_of))]
 fn applied(d: Device, number: u32, w: u32) -> Device
     ensures { result ≡ applied_of d number w }
 {
@@ -106,6 +110,7 @@ fn applied(d: Device, number: u32, w: u32) -> Device
 }
 
 // A store that is not declined. No call of the device: its callers judge the declines first.
+#[tactic(auto, unfolding(crate::specs::Store::store_accepted_of))]
 pub fn store_accepted(g: Geometry, d: Device, number: u32, form: u32, value: u32) -> Answer
     requires { InRange g }
     ensures { result ≡ store_accepted_of g d number form value }
@@ -128,6 +133,7 @@ pub fn store_accepted(g: Geometry, d: Device, number: u32, form: u32, value: u32
 }
 
 // A store of a form and a value to a register.
+#[tactic(auto, unfolding(crate::specs::Store::store_of))]
 pub fn store(g: Geometry, d: Device, number: u32, form: u32, value: u32) -> Answer
     ensures { result ≡ store_of g d number form value }
 {
@@ -142,6 +148,7 @@ pub fn store(g: Geometry, d: Device, number: u32, form: u32, value: u32) -> Answ
     }
 }
 
+#[tactic(auto, unfolding(crate::specs::Store::read_decline_of))]
 fn read_decline(g: Geometry, d: Device, number: u32) -> Decline
     ensures { result ≡ read_decline_of g d number }
 {
@@ -156,6 +163,7 @@ fn read_decline(g: Geometry, d: Device, number: u32) -> Decline
 }
 
 // A read of a register: at key step 0 or 1 it changes nothing, at 2 or 3 it closes the key.
+#[tactic(auto, unfolding(crate::specs::Store::register_read_of))]
 pub fn register_read(g: Geometry, d: Device, number: u32) -> RegisterRead
     ensures { result ≡ register_read_of g d number }
 {

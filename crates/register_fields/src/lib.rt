@@ -27,6 +27,7 @@ pub fn wanted(form: u32, old: u32, value: u32) -> u32
 }
 
 // The key step after a store to NVMKEY.
+#[tactic(auto, unfolding(crate::specs::Fields::key_next_of))]
 pub fn key_next(keystep: u32, value: u32) -> u32
     ensures { result ≡ key_next_of keystep value }
 {
@@ -49,6 +50,7 @@ pub fn key_next(keystep: u32, value: u32) -> u32
 }
 
 // The key step after a register read.
+#[tactic(auto, unfolding(crate::specs::Fields::key_after_read_of))]
 pub fn key_after_read(keystep: u32) -> u32
     ensures { result ≡ key_after_read_of keystep }
 {
@@ -59,6 +61,7 @@ pub fn key_after_read(keystep: u32) -> u32
 }
 
 // The fields of NVMCON that take the wanted value.
+#[tactic(auto, unfolding(crate::specs::Fields::con_takes_of))]
 pub fn con_takes(d: Device) -> u32
     ensures { result ≡ con_takes_of d }
 {
@@ -75,6 +78,7 @@ pub fn con_takes(d: Device) -> u32
 }
 
 // The fields of NVMPWP that take the wanted value. Where the lock bit is 0 none does, so it never rises.
+#[tactic(auto, unfolding(crate::specs::Fields::pwp_takes_of))]
 pub fn pwp_takes(d: Device) -> u32
     ensures { result ≡ pwp_takes_of d }
 {
@@ -106,6 +110,7 @@ fn upper_takes(d: Device) -> u32
 }
 
 // The fields of NVMBWP that take the wanted value.
+#[tactic(auto, unfolding(crate::specs::Fields::bwp_takes_of))]
 pub fn bwp_takes(d: Device) -> u32
     ensures { result ≡ bwp_takes_of d }
 {
@@ -134,6 +139,7 @@ fn swaplock_takes(d: Device) -> u32
 }
 
 // The fields of NVMCON2 that take the wanted value.
+#[tactic(auto, unfolding(crate::specs::Fields::con2_takes_of))]
 pub fn con2_takes(d: Device) -> u32
     ensures { result ≡ con2_takes_of d }
 {

@@ -40,6 +40,7 @@ pub struct Restarted {
     pub reason: Reason,
 }
 
+#[tactic(auto, unfolding(crate::specs::Reset::reset_decline_of))]
 fn reset_decline(g: Geometry, d: Device, one: usize, two: usize, sram: usize, kind: u32) -> Decline
     ensures { result ≡ reset_decline_of g d one two sram kind }
 {
@@ -100,6 +101,7 @@ pub fn compared(g: Geometry, one: &[u32], two: &[u32]) -> Comparison
 }
 
 // NVMCON after a reset, but for BFSWAP.
+#[tactic(auto, unfolding(crate::specs::Reset::reset_con_of))]
 fn reset_con(d: Device, kind: u32) -> u32
     ensures { result ≡ reset_con_of d kind }
 {
@@ -129,6 +131,7 @@ fn swapped(con: u32, swap: bool) -> u32
 }
 
 // The device after a reset.
+#[tactic(auto, unfolding(crate::specs::Reset::reset_device_of))]
 fn reset_device(d: Device, kind: u32, swap: bool) -> Device
     ensures { result ≡ reset_device_of d kind swap }
 {
@@ -147,6 +150,7 @@ fn reset_device(d: Device, kind: u32, swap: bool) -> Device
 }
 
 // A reset: kind 0 power_on_lem, 1 brown_out, 2 other.
+#[tactic(auto, unfolding(crate::specs::Reset::explained_of))]
 pub fn reset(
     g: Geometry,
     d: Device,

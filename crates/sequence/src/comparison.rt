@@ -41,6 +41,7 @@ pub struct Comparison {
 }
 
 // The comparison of the sequence words of bank 1 and bank 2.
+#[tactic(auto, unfolding(crate::specs::Comparison::compare_of))]
 pub fn compare(first: u32, other: u32) -> Comparison
     ensures { result ≡ compare_of first other }
 {

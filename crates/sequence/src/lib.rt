@@ -42,6 +42,7 @@ pub fn cseq(w: u32) -> u32
 }
 
 // Whether C is the bitwise complement of T, by the sum of the two.
+#[tactic(auto, using(crate::proofs::Sum::valid_sum))]
 pub fn is_valid(w: u32) -> bool
     ensures { result ≡ valid_of w }
 {
@@ -51,6 +52,7 @@ pub fn is_valid(w: u32) -> bool
 }
 
 // The bitwise complement of a half word.
+#[tactic(auto, unfolding(crate::specs::Sequence::complement_of))]
 fn complement(half: u32) -> u32
     ensures { result ≡ complement_of half }
 {
@@ -58,6 +60,7 @@ fn complement(half: u32) -> u32
 }
 
 // The valid sequence word of T.
+#[tactic(auto, using(crate::proofs::SequenceLaws::complement_below), unfolding(crate::specs::Sequence::sequence_word_of))]
 pub fn sequence_word(t: u32) -> u32
     requires { t < 65536 }
     ensures { result ≡ sequence_word_of t }
@@ -66,6 +69,7 @@ pub fn sequence_word(t: u32) -> u32
 }
 
 // The sequence quad of the bank that is to follow the one with sequence word w.
+#[tactic(auto, unfolding(crate::specs::Sequence::next_sequence_of))]
 pub fn next_sequence(w: u32) -> [u32; 4]
     ensures { result ≡ next_sequence_of w }
 {

@@ -21,6 +21,7 @@ pub struct StartedUp {
     pub device: Device,
 }
 
+#[tactic(auto, unfolding(crate::specs::StartUp::start_up_decline_of))]
 fn start_up_decline(g: Geometry, d: Device) -> Decline
     ensures { result ≡ start_up_decline_of g d }
 {
@@ -57,6 +58,7 @@ fn swapped(g: Geometry, d: Device) -> Device
 }
 
 // The whole start-up.
+#[tactic(auto, unfolding(crate::specs::StartUp::start_up_of, crate::specs::StartUp::start_up_stores))]
 pub fn start_up(g: Geometry, d: Device) -> StartedUp
     ensures { result ≡ start_up_of g d }
 {
