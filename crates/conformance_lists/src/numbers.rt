@@ -26,6 +26,7 @@ struct Parsed {
 }
 
 // A number with one more digit.
+#[tactic(auto, unfolding(crate::specs::Numbers::appended_of))]
 fn appended(number: u64, byte: u8) -> u64
     ensures { result ≡ appended_of number byte }
 {
