@@ -47,4 +47,4 @@ page_part_of g bank page =
 abbrev pub PartItself : Geometry → Bor (List ℕ) → ℕ → Bor (List ℕ) → Type 0
 PartItself g bank page r =
     accepted_of (page_decline_of g (length bank.now) page) ≡ true
-    → r.ptr ≡ (bank.ptr.0, page * page_words_of g * 4 + bank.ptr.1)
+    → r.ref_ptr ≡ (bank.ref_ptr.0, page * page_words_of g * 4 + bank.ref_ptr.1)

@@ -13,6 +13,7 @@ use words::decline::Decline;
 use words::word::has;
 
 // Why the request for the bank on the lower alias is declined.
+#[tactic(auto, unfolding(crate::specs::Parts::lower_bank_decline_of))]
 pub fn lower_bank_decline(g: Geometry, d: Device, one: &[u32], two: &[u32]) -> Decline
     ensures { result ≡ lower_bank_decline_of g d (length one.now) (length two.now) }
 {
@@ -20,6 +21,7 @@ pub fn lower_bank_decline(g: Geometry, d: Device, one: &[u32], two: &[u32]) -> D
 }
 
 // The bank on the lower alias: the lent bank itself, or an empty part where the request is declined.
+#[tactic(auto, unfolding(crate::specs::Parts::lower_bank_of))]
 pub fn lower_bank<'a>(g: Geometry, d: Device, one: &'a [u32], two: &'a [u32]) -> &'a [u32]
     ensures lent_itself { LentItself g d one.entry two.entry result }
     ensures result_value { result.now ≡ lower_bank_of g d one.now two.now }
@@ -35,6 +37,7 @@ pub fn lower_bank<'a>(g: Geometry, d: Device, one: &'a [u32], two: &'a [u32]) ->
 }
 
 // Why the request for a page is declined.
+#[tactic(auto, unfolding(crate::specs::Parts::page_decline_of))]
 pub fn page_decline(g: Geometry, bank: &[u32], page: u32) -> Decline
     ensures { result ≡ page_decline_of g (length bank.now) page }
 {
@@ -49,6 +52,7 @@ pub fn page_decline(g: Geometry, bank: &[u32], page: u32) -> Decline
 }
 
 // A page of a lent bank as that part of it, or an empty part where the request is declined.
+#[tactic(auto, unfolding(crate::specs::Parts::page_part_of))]
 pub fn page(g: Geometry, bank: &[u32], page: u32) -> &[u32]
     ensures part_itself { PartItself g bank.entry page result }
     ensures result_value { result.now ≡ page_part_of g bank.now page }

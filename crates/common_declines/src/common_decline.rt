@@ -10,6 +10,7 @@ use geometry::lent::{Lent, lent_decline};
 use words::decline::Decline;
 
 // Which of declines 1, 2 and 3 applies; an SRAM of length 0 where none is lent.
+#[tactic(auto, unfolding(crate::specs::CommonDecline::common_decline_of))]
 pub fn common_decline(g: Geometry, d: Device, lent: Lent, sram: usize) -> Decline
     ensures { result ≡ common_decline_of g d (lengths_of lent) sram }
 {

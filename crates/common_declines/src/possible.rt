@@ -27,6 +27,7 @@ fn is_implemented(d: Device) -> bool
 }
 
 // Whether what was launched is within its registers' masks.
+#[tactic(auto, unfolding(crate::specs::Possible::launched_fits_of))]
 fn launched_fits(d: Device) -> bool
     ensures { result ≡ launched_fits_of d.launched }
 {
@@ -50,6 +51,7 @@ fn launched_fits(d: Device) -> bool
 }
 
 // Whether what was launched is all 0.
+#[tactic(auto, unfolding(crate::specs::Possible::nothing_launched_of))]
 fn nothing_launched(d: Device) -> bool
     ensures { result ≡ nothing_launched_of d.launched }
 {
@@ -73,6 +75,7 @@ fn nothing_launched(d: Device) -> bool
 }
 
 // Whether a device with WR = 0 holds nothing of an operation.
+#[tactic(auto, unfolding(crate::specs::Possible::resting_of))]
 fn is_resting(d: Device) -> bool
     ensures { result ≡ resting_of d }
 {
@@ -83,6 +86,7 @@ fn is_resting(d: Device) -> bool
 }
 
 // Whether an operation that runs can have been launched so.
+#[tactic(auto, unfolding(crate::specs::Possible::running_of))]
 fn is_running(g: Geometry, d: Device) -> bool
     requires { InRange g }
     ensures { result ≡ running_of g d }
@@ -103,6 +107,7 @@ fn is_running(g: Geometry, d: Device) -> bool
 }
 
 // Whether decline 3 does not apply.
+#[tactic(auto, unfolding(crate::specs::Possible::possible_of))]
 pub fn is_possible(g: Geometry, d: Device) -> bool
     requires { InRange g }
     ensures { result ≡ possible_of g d }

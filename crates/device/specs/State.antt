@@ -32,9 +32,9 @@ after decline s event = record { decline = decline; state = s; event = event }
 abbrev pub answered_of : State → Answer → After
 answered_of s a = after a.decline (state a.device s.one s.two) a.event
 
--- ---- in contracts: a device with two lent banks, and an answer with the banks as they are then
+-- ---- in contracts: a device with two banks that are lent to be read, and an answer with the banks as they are then
 abbrev pub lent : Device → Bor (List ℕ) → Bor (List ℕ) → State
 lent d one two = state d one.now two.now
 
-abbrev pub leaves : Answer → Bor (List ℕ) → Bor (List ℕ) → After
-leaves a one two = after a.decline (lent a.device one two) a.event
+abbrev pub leaves : Answer → List ℕ → List ℕ → After
+leaves a one two = after a.decline (state a.device one two) a.event

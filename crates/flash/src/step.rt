@@ -3,7 +3,7 @@
 ghost use Rattle.std.specs.Prelude.{◌≡◌, true, length};
 ghost use Rattle.words.specs.Decline.{accepted_of};
 ghost use Rattle.geometry.specs.Banks.{bank_words_of};
-ghost use Rattle.device.specs.State.{lent, leaves};
+ghost use Rattle.device.specs.State.{state, lent, leaves};
 ghost use Rattle.flash.specs.Effect.{Runs};
 ghost use Rattle.flash.specs.Step.{step_decline_of, ended_of, advance_of, step_effect_of, step_of};
 
@@ -99,7 +99,7 @@ pub fn step_accepted(
     sram: &[u32],
 ) -> Answer
     requires { accepted_of (step_decline_of g d (length one.old) (length two.old) (length sram.now)) ≡ true }
-    ensures { leaves result one.exit two.exit ≡ step_of g (lent d one.entry two.entry) sram.now }
+    ensures { leaves result one.new two.new ≡ step_of g (state d one.old two.old) sram.now }
 {
     let e = step_effect(g, d, one, two, sram);
     let write = e.write;
@@ -110,7 +110,7 @@ pub fn step_accepted(
 // One step of the running operation.
 #[tactic(auto, unfolding(crate::specs::Step::step_of))]
 pub fn step(g: Geometry, d: Device, one: &mut [u32], two: &mut [u32], sram: &[u32]) -> Answer
-    ensures { leaves result one.exit two.exit ≡ step_of g (lent d one.entry two.entry) sram.now }
+    ensures { leaves result one.new two.new ≡ step_of g (state d one.old two.old) sram.now }
 {
     let decline = step_decline(g, d, one.len(), two.len(), sram.len());
     if !decline.is_accepted() {

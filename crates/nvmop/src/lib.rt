@@ -38,7 +38,7 @@ pub fn unit(g: Geometry, op: u32) -> u32
 }
 
 // Where NVMOP 2, 3 and 4 begin.
-#[tactic(auto, unfolding(crate::specs::Operation::target_of))]
+#[tactic(auto, using(crate::proofs::OperationLaws::unit_pos), unfolding(crate::specs::Operation::target_of))]
 pub fn target(g: Geometry, op: u32, address: u32) -> Location
     requires { InRange g }
     ensures { result ≡ target_of g op address }
@@ -46,7 +46,7 @@ pub fn target(g: Geometry, op: u32, address: u32) -> Location
     locate(g, round_down(address, unit(g, op)))
 }
 
-#[tactic(auto, unfolding(crate::specs::Operation::target_begins_of))]
+#[tactic(auto, using(crate::proofs::OperationLaws::target_page), unfolding(crate::specs::Operation::target_begins_of))]
 fn target_begins(g: Geometry, op: u32, address: u32, last: u32) -> bool
     requires { InRange g }
     ensures { result ≡ target_begins_of g last (target_of g op address) }

@@ -6,7 +6,7 @@ ghost use Rattle.geometry.specs.Banks.{InRange, bank_words_of};
 ghost use Rattle.map.specs.Windows.{locate_of};
 ghost use Rattle.words.specs.declared.decline.Decline.{Decline};
 ghost use Rattle.words.specs.Decline.{accepted_of};
-ghost use Rattle.device.specs.State.{lent, after};
+ghost use Rattle.device.specs.State.{state, lent, after};
 ghost use Rattle.common_declines.specs.Possible.{possible_of};
 ghost use Rattle.flash.specs.Step.{step_decline_of};
 ghost use Rattle.reads.specs.Read.{second_at_of, free_of, readable_of, flash_read_decline_of, stepped, steps_of, word_read_of, reading, flash_read_of};
@@ -50,6 +50,7 @@ fn second_at(d: Device, l: Location) -> bool
 }
 
 // Whether no running operation targets the bank.
+#[tactic(auto, unfolding(crate::specs::Read::free_of))]
 fn is_free(g: Geometry, d: Device, second: bool) -> bool
     requires in_range { InRange g }
     requires d_value { possible_of g d ≡ true }
@@ -75,6 +76,7 @@ fn is_readable(g: Geometry, address: u32) -> bool
     address % 4 == 0
 }
 
+#[tactic(auto, unfolding(crate::specs::Read::flash_read_decline_of))]
 fn flash_read_decline(
     g: Geometry,
     d: Device,
@@ -105,8 +107,8 @@ fn steps(
     count: u32,
 ) -> Waited
     requires { accepted_of (step_decline_of g d (length one.old) (length two.old) (length sram.now)) ≡ true }
-    ensures { stepped (lent result.device one.exit two.exit) result.event
-        ≡ steps_of g sram.now count (lent d one.entry two.entry) }
+    ensures { stepped (state result.device one.new two.new) result.event
+        ≡ steps_of g sram.now count (state d one.old two.old) }
 {
     let mut device = d;
     let mut left = count;
@@ -164,6 +166,7 @@ fn given(g: Geometry, waited: Waited, one: &[u32], two: &[u32], address: u32) ->
 }
 
 // A flash read: of a bank that the running operation works on it first carries out the steps that remain.
+#[tactic(auto, unfolding(crate::specs::Read::flash_read_of))]
 pub fn flash_read(
     g: Geometry,
     d: Device,
@@ -172,8 +175,8 @@ pub fn flash_read(
     sram: &[u32],
     address: u32,
 ) -> FlashRead
-    ensures { reading (after result.decline (lent result.device one.exit two.exit) result.event) result.word
-        ≡ flash_read_of g (lent d one.entry two.entry) sram.now address }
+    ensures { reading (after result.decline (state result.device one.new two.new) result.event) result.word
+        ≡ flash_read_of g (state d one.old two.old) sram.now address }
 {
     let decline = flash_read_decline(g, d, one.len(), two.len(), sram.len(), address);
     if !decline.is_accepted() {

@@ -1,0 +1,27 @@
+-- The effect of the step, and then its write: a step to which no decline applies runs, and its write lies in both banks.
+use Rattle.std.proofs.Common.{ap}
+use Rattle.device.specs.State.{state}
+use Rattle.flash.specs.declared.step.StepEffect.{StepEffect}
+use Rattle.flash.specs.Step.{step_of}
+use Rattle.flash.proofs.EffectLaws.{effect_fits}
+use Rattle.flash.proofs.AcceptedLaws.{advance_accepts, step_ready}
+use Rattle.flash.proofs.step.step_accepted.Goals as goal
+
+pub step_effect-e-requires-clause-runs : goal.step_effect-e-requires-clause-runs
+step_effect-e-requires-clause-runs c = (step_ready _ _ _ _ _ c.requires).1
+
+pub step_effect-e-requires-clause-one_len : goal.step_effect-e-requires-clause-one_len
+step_effect-e-requires-clause-one_len c =
+    let (ready, on, _) = step_ready _ _ _ _ _ c.requires in
+    (ready.lent.banks.0, ready.lent.banks.1.0)
+
+pub apply-requires : goal.apply-requires
+apply-requires c =
+    let a = c.args in
+    let (ready, on, _) = step_ready _ _ _ _ _ c.requires in
+    rw (ap (λ (e : StepEffect). e.write) c.step_effect-e.ensures)
+    (effect_fits _ (state a.d a.one.now a.two.now) a.sram.now on (ready.lent.banks.0, ready.lent.banks.1.0))
+
+pub returns : goal.returns
+unfolding step_of
+returns c = rw (c.apply.ensures.0, c.apply.ensures.1, c.requires, c.step_effect-e.ensures, advance_accepts)
