@@ -8,7 +8,7 @@ ghost use Rattle.device.specs.Registers.{BFSWAP};
 ghost use Rattle.geometry.specs.Banks.{InRange, bank_words_of};
 ghost use Rattle.common_declines.specs.Possible.{possible_of};
 ghost use Rattle.flash.specs.Effect.{Runs, effect_of};
-ghost use Rattle.device.specs.State.{lent, after};
+ghost use Rattle.device.specs.State.{state, lent, after};
 ghost use Rattle.resets.specs.Reset.{reset_decline_of, torn_of, tear_of, comparison_of, reset_con_of, reset_device_of, explained, explained_of};
 
 use common_declines::common_decline::common_decline;
@@ -81,7 +81,7 @@ fn tear(g: Geometry, d: Device, one: &mut [u32], two: &mut [u32], sram: &[u32], 
     requires in_range { InRange g }
     requires d_value { possible_of g d ≡ true }
     requires one_len { (length one.old ≡ bank_words_of g) × (length two.old ≡ bank_words_of g) }
-    ensures { lent d one.exit two.exit ≡ tear_of g (lent d one.entry two.entry) sram.now mask }
+    ensures { state d one.new two.new ≡ tear_of g (state d one.old two.old) sram.now mask }
 {
     if !has(d.nvmcon.0, Nvmcon::WR) {
         return;
@@ -160,8 +160,8 @@ pub fn reset(
     kind: u32,
     mask: [u32; 4],
 ) -> Restarted
-    ensures { explained (after result.decline (lent result.device one.exit two.exit) false) result.reason
-        ≡ explained_of g (lent d one.entry two.entry) sram.now kind mask }
+    ensures { explained (after result.decline (state result.device one.new two.new) false) result.reason
+        ≡ explained_of g (state d one.old two.old) sram.now kind mask }
 {
     let decline = reset_decline(g, d, one.len(), two.len(), sram.len(), kind);
     if !decline.is_accepted() {
