@@ -94,6 +94,7 @@ fn compare_images(image: &[u32], other: &[u32]) -> Difference
 }
 
 // The number of a quad of the bank in the order of the programming.
+#[tactic(auto, unfolding(crate::specs::Reach::programmed_at_of))]
 fn programmed_at(g: Geometry, quad: u32) -> u32
     requires in_range { InRange g }
     requires quad_bound { quad < bank_quads_of g }
@@ -106,6 +107,7 @@ fn programmed_at(g: Geometry, quad: u32) -> u32
 }
 
 // The place of the store of a word of the image to its NVMDATA register.
+#[tactic(auto, unfolding(crate::specs::Reach::data_place_of))]
 fn data_place(g: Geometry, i: u32) -> u32
     requires in_range { InRange g }
     requires i_bound { i < bank_words_of g }
@@ -115,6 +117,7 @@ fn data_place(g: Geometry, i: u32) -> u32
     programming + programmed_at(g, i / 4) * 13 + (1 + i % 4)
 }
 
+#[tactic(auto, unfolding(crate::specs::Reach::answer_of))]
 fn answer_of(g: Geometry, d: Difference) -> ReachAnswer
     requires in_range { InRange g }
     requires lowest_bound { d.lowest < bank_words_of g }
@@ -130,6 +133,7 @@ fn answer_of(g: Geometry, d: Difference) -> ReachAnswer
 }
 
 // What two images differ in, and where they differ in one word the place of the action that differs. It changes nothing.
+#[tactic(auto, unfolding(crate::specs::Reach::reach_of))]
 pub fn reach(g: Geometry, image: &[u32], other: &[u32]) -> Reached
     ensures { result ≡ reach_of g image.now other.now }
 {

@@ -43,6 +43,7 @@ pub fn is_listed(queue: Queue, p: usize, record: u32) -> bool
 }
 
 // Whether an entry of a queue is a record of the list, and stands there once.
+#[tactic(auto, unfolding(crate::specs::Judge::entry_stands_of))]
 fn entry_stands(queue: Queue, n: usize, p: usize) -> bool
     requires { p < 32 }
     ensures { result ≡ entry_stands_of queue n p }
@@ -56,6 +57,7 @@ fn entry_stands(queue: Queue, n: usize, p: usize) -> bool
 }
 
 // Whether a queue has room for its count, repeats no record and does not overstep the list.
+#[tactic(auto, unfolding(crate::specs::Judge::queue_stands_of))]
 fn queue_stands(queue: Queue, n: usize) -> bool
     ensures { result ≡ queue_stands_of queue n }
 {
@@ -91,6 +93,7 @@ fn starts_of(row: Row, n: usize) -> [u32; 64]
 }
 
 // Whether two banks of so many words do not overlap; starts are numbers of 32 bits.
+#[tactic(auto, unfolding(crate::specs::Judge::apart_of))]
 fn apart(words: usize, a: usize, b: usize) -> bool
     requires { (words ≤ 4294967296) × ((a ≤ 4294967296) × (b ≤ 4294967296)) }
     ensures { result ≡ apart_of words a b }
@@ -102,6 +105,7 @@ fn apart(words: usize, a: usize, b: usize) -> bool
 }
 
 // Whether a bank lies in a store of so many words, apart from the banks before it.
+#[tactic(auto, unfolding(crate::specs::Judge::bank_stands_of))]
 fn bank_stands(starts: &[u32], words: usize, store: usize, b: usize) -> bool
     requires b_in_bounds { b < length starts.now }
     requires words_bound { words ≤ 4294967296 }
@@ -139,6 +143,7 @@ fn banks_stand(row: Row, n: usize, words: usize, store: usize) -> bool
 }
 
 // Whether none of the conditions of 19 applies.
+#[tactic(auto, unfolding(crate::specs::Judge::row_stands_of))]
 fn row_stands(
     g: Geometry,
     k: u32,
@@ -167,6 +172,7 @@ fn row_stands(
 }
 
 // Which of declines 1, 2 and 19 applies.
+#[tactic(auto, unfolding(crate::specs::Judge::row_decline_of))]
 pub fn row_decline(
     g: Geometry,
     k: u32,

@@ -1,4 +1,4 @@
-// A lent list of records: gathered by value, and one record kept. The functions with the list are walked.
+// A lent list of records: gathered by value, and one record kept.
 #![tactic(auto)]
 
 ghost use Rattle.std.specs.Prelude.{◌≡◌, ◌≤◌, length, set};
