@@ -13,7 +13,7 @@ const MASKS: u32 = 6;
 
 const CUTS: u32 = 18;
 
-// The bank that runs after an update, a power_on_lem and a start-up.
+// The bank that runs after an update, a power-on and a start-up.
 fn bank_after(g: Geometry, ended: Ended, one: &mut [u32], two: &mut [u32]) -> u32 {
     if !ended.is_done {
         return 0;

@@ -29,7 +29,7 @@ fn address_of(g: Geometry, place: u32) -> u32 {
     window_start(g, true, true) + 4 * (place % FEWEST_WORDS)
 }
 
-// Runs the update from power_on_lem to a place; gives the device there. The banks are filled.
+// Runs the update from power-on to a place; gives the device there. The banks are filled.
 fn run_filled(g: Geometry, one: &mut [u32], two: &mut [u32], image: &[u32], place: u32) -> Device {
     let running = restart(g, power_on(), one, two, 0, mask(0));
     let ended = run_turns(g, running.device, one, two, image, place);

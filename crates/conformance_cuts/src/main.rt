@@ -7,7 +7,7 @@
 //
 // A cut is a reset from the state that the update has at the place, and a start-up: for each kind from 0 to 2 there are
 // six masks. A cut's three numbers are the bank that runs then, the answer of a second start of the same update, and the
-// bank that runs after that update, a power_on_lem and a start-up. A bank is 1 or 2, and 0 where BFSWAP and PFSWAP differ, a
+// bank that runs after that update, a power-on and a start-up. A bank is 1 or 2, and 0 where BFSWAP and PFSWAP differ, a
 // reset or start-up is declined or the update is not done. Where the new bank runs, there is no second start, and two
 // zeros stand for it.
 //

@@ -9,7 +9,7 @@ pub const MOST_WORDS: usize = 192;
 
 const SMALL_WORDS: usize = 64;
 
-// A sign before power_on_lem: its geometry, the words of a bank and the index of the sequence word there, the number of the
+// A sign before power-on: its geometry, the words of a bank and the index of the sequence word there, the number of the
 // old bank, and the sequence words of the old bank and of the other.
 #[derive(Clone, Copy)]
 pub struct Sign {
@@ -61,7 +61,7 @@ pub fn numbered(number: u32) -> Sign
     }
 }
 
-// A word of a bank or image before power_on_lem.
+// A word of a bank or image before power-on.
 fn word(index: usize, seed: u64) -> u32
     requires { (index < 1000) × (seed < 1000) }
 {
@@ -79,7 +79,7 @@ fn fill(words: &mut [u32], seed: u64)
     }
 }
 
-// Fills the banks of a sign before power_on_lem.
+// Fills the banks of a sign before power-on.
 pub fn fill_banks(sign: Sign, one: &mut [u32], two: &mut [u32])
     requires one_len_bound { (length one.old ≤ 192) × (length two.old ≤ 192) }
     requires sequence_in_bounds { (sign.sequence < length one.old) × (sign.sequence < length two.old) }

@@ -51,7 +51,7 @@ use Rattle.controller.proofs.ReadLaws.{by_flash_read}
 use Rattle.controller.proofs.LoadLaws.{six, answers, loaded, no_event, unseen_answers}
 
 -- ---- a reset with other registers 2 to 7
--- which of them it leaves: a power_on_lem gives its own
+-- which of them it leaves: a power-on gives its own
 abbrev reset_operands : Operands → ℕ → Operands
 reset_operands o kind = pick (eqb kind 0) (operands_of power_on) o
 

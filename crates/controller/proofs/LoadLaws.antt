@@ -301,7 +301,7 @@ load_alike g s t r form value loads word on h =
 moves_alike : (g : Geometry) (s t : State) (l : List Move) → Loads g t l → Alike g s t
     → Alike g (run_of g s (moves_of (works_of l))) (run_of g t (moves_of l))
 moves_alike g s t [] loads h = h
-moves_alike g s t (work sram ∷ l) loads h = moves_alike g _ _ l loads (step_alike g s t sram h)
+moves_alike g s t (work sram ∷ l) loads h = moves_alike g (step_of g s sram).state (step_of g t sram).state l loads (step_alike g s t sram h)
 moves_alike g s t (load r form value ∷ l) (known, (word, (on, rest))) h =
     moves_alike g s _ l rest (load_alike g s t r form value known word on h)
 
@@ -311,7 +311,7 @@ given_alike g s t (work sram ∷ l) loads h =
     let same = ap (λ (u : State). step_of g u sram) h.same ∙ step_with g s h.operands h.can sram in
     ap (λ (a : After). record { decline = a.decline; event = a.event } ∷ given_of g (step_of g t sram).state l) same
     ∙ ap (λ (rest : List Given). record { decline = (step_of g s sram).decline; event = (step_of g s sram).event } ∷ rest)
-    (given_alike g _ _ l loads (step_alike g s t sram h))
+    (given_alike g (step_of g s sram).state (step_of g t sram).state l loads (step_alike g s t sram h))
 given_alike g s t (load r form value ∷ l) (known, (word, (on, rest))) h =
     given_alike g s _ l rest (load_alike g s t r form value known word on h)
 

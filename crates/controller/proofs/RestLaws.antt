@@ -20,7 +20,7 @@ use Rattle.launch.specs.ConStore.{launches_of, con_store_of}
 use Rattle.start_up.specs.StartUp.{Access, stores_of}
 use Rattle.register_access.proofs.AcceptedLaws.{AtRest}
 use Rattle.device.specs.State.{State, state}
-use Rattle.controller.specs.Controller.{run_of, AllAccepted, BringWords, store_operations}
+use Rattle.controller.specs.Controller.{store, run_of, AllAccepted, BringWords, store_operations}
 use Rattle.controller.proofs.StoreLaws.{taken_idle, store_possible}
 use Rattle.controller.proofs.StoreEquations.{store-accepted, store_runs, wr_off}
 use Rattle.controller.proofs.RunLaws.{store_answers}
@@ -93,13 +93,13 @@ no_launch_rests g d rest a q = store_rests g d rest a.register a.form a.value q.
 -- a row of them leaves it at rest, and none is declined
 pub stores_rest : (g : Geometry) (d : Device) → AtRest g d → (l : List Access) → NoLaunches l → AtRest g (stores_of g d l)
 stores_rest g d rest [] q = rest
-stores_rest g d rest (a ∷ l) q = stores_rest g _ (no_launch_rests g d rest a q.0) l q.1
+stores_rest g d rest (a ∷ l) q = stores_rest g (store_of g d a.register a.form a.value).device (no_launch_rests g d rest a q.0) l q.1
 
 pub stores_accepted : (g : Geometry) (s : State) → AtRest g s.device → (l : List Access) → NoLaunches l → AllAccepted g s (store_operations l)
 stores_accepted g s rest [] q = tt
 stores_accepted g s rest (a ∷ l) q = (
   store_answers g s.device a.register a.form a.value (store-accepted g s.device rest a.register a.form q.0.form),
-  stores_accepted g _ (no_launch_rests g s.device rest a q.0) l q.1,
+  stores_accepted g (run_of g s (store a.register a.form a.value ∷ [])) (no_launch_rests g s.device rest a q.0) l q.1,
 )
 
 -- the operations of stores in a row do what the stores do

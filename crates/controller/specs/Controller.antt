@@ -111,7 +111,7 @@ pub record Controller : Type 1 where
   -- ---- every operation and every list of them
   -- every list of operations, declined ones too, from a possible device leaves one, and banks of unchanged length
   pub stays_sound : (g : Geometry) (s : State) → Sound g s → (l : List Operation) → BringWords l → Sound g (run_of g s l)
-  -- so from power_on_lem
+  -- so from power-on
   pub power_on_lem : (g : Geometry) (one two : List ℕ) → length one ≡ bank_words_of g → length two ≡ bank_words_of g → Sound g (state power_on one two)
   -- a declined operation changes nothing
   pub declined_same : (g : Geometry) (s : State) (o : Operation) → accepted_of (answer_of g s o) ≡ false → transition_of g s o ≡ s

@@ -18,7 +18,7 @@ use Rattle.controller.specs.Loads.Move.{work, load}
 abbrev pub small_sign : Geometry
 small_sign = record { q = 1; b = 1; p = 1 }
 
--- after power_on_lem, over erased banks
+-- after power-on, over erased banks
 abbrev pub at_rest : State
 at_rest = state power_on (replicate 64 all_ones) (replicate 64 all_ones)
 

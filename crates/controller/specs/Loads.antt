@@ -110,7 +110,7 @@ pub record LoadEarly : Type 1 where
       let o = reset sram kind mask in
       ButLoaded (transition_of g without o) (transition_of g loaded o)
       × ((answer_of g loaded o ≡ answer_of g without o) × (reset_reason_of g loaded sram kind mask ≡ reset_reason_of g without sram kind mask))
-  -- "a non-power-on reset keeps the new register values", and a power_on_lem gives the reset values
+  -- "a non-power-on reset keeps the new register values", and a power-on gives the reset values
   pub keeps : (g : Geometry) (s : State) (sram : List ℕ) (kind : ℕ) (mask : List ℕ) → (kind ≡ 0 → ⊥)
       → operands_of (transition_of g s (reset sram kind mask)).device ≡ operands_of s.device
   pub forgets : (g : Geometry) (s : State) (sram mask : List ℕ) → accepted_of (answer_of g s (reset sram 0 mask)) ≡ true
@@ -125,7 +125,7 @@ pub record LoadEarly : Type 1 where
   -- "all 0 while WR is 0, else decline 3": so after the last step, an abort, a reset, a launch that fails or does not begin
   pub cleared : (g : Geometry) (s : State) (o : Operation) → possible_of g s.device ≡ true → BringsWord o
       → let d = (transition_of g s o).device in running d ≡ false → nothing_launched_of d.launched ≡ true
-  -- what 01 accepts keeps the device as launched, from power_on_lem on
+  -- what 01 accepts keeps the device as launched, from power-on on
   pub power_on_lem : AsLaunched power_on
   pub stays : (g : Geometry) (s : State) (o : Operation) → AsLaunched s.device → loads_while_running s.device o ≡ false
       → AsLaunched (transition_of g s o).device

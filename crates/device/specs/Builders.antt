@@ -6,7 +6,7 @@ use Rattle.device.specs.Record.{no_operands}
 use Rattle.device.specs.Registers.{resets}
 use Rattle.device.specs.Numbers.{NVMCON, NVMKEY, NVMADDR, NVMDATA0, NVMDATA1, NVMDATA2, NVMDATA3, NVMSRCADDR, NVMPWP, NVMBWP, NVMCON2}
 
--- "power_on_lem gives all reset values": the device then, before the comparison of the banks
+-- "power-on gives all reset values": the device then, before the comparison of the banks
 abbrev pub power_on : Device
 power_on =
     record {

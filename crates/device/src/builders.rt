@@ -32,7 +32,7 @@ pub fn no_operands() -> Operands
     }
 }
 
-// The device after power_on_lem, before the comparison of the banks.
+// The device after power-on, before the comparison of the banks.
 pub fn power_on() -> Device
     ensures { result ≡ power_on }
 {

@@ -1,4 +1,4 @@
-// Plays the service script of standard input after power_on_lem, and prints a line for each record.
+// Plays the service script of standard input after power-on, and prints a line for each record.
 #![tactic(auto)]
 
 ghost use Rattle.std.specs.Prelude.{◌≤◌, length};

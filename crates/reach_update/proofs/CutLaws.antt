@@ -183,7 +183,7 @@ module _ (g : Geometry) (s : State) (image other : List ℕ) (i : ℕ) (update :
         new_bank_lem = reset_same.near.new_bank_lem;
       }
 
-  -- ---- what a reset keeps of the difference: a power_on_lem nothing of it, another kind NVMDATA of both
+  -- ---- what a reset keeps of the difference: a power-on nothing of it, another kind NVMDATA of both
   module _ (ok : accepted_of (reset_by g t c).decline ≡ true) where
     device_p : (reset_by g t c).state.device ≡ reset_device_of t.device c.kind (compared t)
     device_p = ap (λ (a : After). a.state.device) (carried (first g s image other i update also same) t c ok)

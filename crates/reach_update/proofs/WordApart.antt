@@ -12,7 +12,7 @@ use lib.Seq.{get_or-set_other}
 use Rattle.geometry.specs.Banks.{in_range_up_to, listed_of}
 use Rattle.geometry.specs.Lent.{lengths_fit_of, lent_decline_up_to}
 use Rattle.controller.proofs.WaitLaws.{idle_free}
-use Rattle.update.specs.PowerFail.{Position, at, place_after, Words, Update}
+use Rattle.update.specs.PowerFail.{turned_of, Position, at, place_after, Words, Update}
 use Rattle.update.specs.Bench.{smallest}
 use Rattle.reads.specs.Read.{waits_of}
 use Rattle.update.specs.Example.{example_state, example_image, empty_srams}
@@ -52,7 +52,7 @@ moved image update =
 -- turns do not wait
 none_wait : (image : List ℕ) (p : Position) (srams : List (List ℕ)) → waits_in smallest image p (turn_moves srams) ≡ false
 none_wait image p [] = refl
-none_wait image p (sram ∷ rest) = none_wait image _ rest
+none_wait image p (sram ∷ rest) = none_wait image (turned_of smallest image p sram) rest
 
 abbrev reading : Move
 reading = read [] 0x1D00_0000

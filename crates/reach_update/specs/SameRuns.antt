@@ -24,7 +24,7 @@ pub record SameCut (g : Geometry) (s : State) (i : ℕ) (a b : State) (c : Cut) 
   pub decline : (reset_by g a c).decline ≡ (reset_by g b c).decline
   pub reason : reset_reason_of g a c.sram c.kind c.mask ≡ reset_reason_of g b c.sram c.kind c.mask
   pub near : NearState (old s) i (reset_by g a c).state (reset_by g b c).state
-  -- a power_on_lem leaves no difference in the device, another kind leaves NVMDATA of both as it was
+  -- a power-on leaves no difference in the device, another kind leaves NVMDATA of both as it was
   pub power_on_lem : accepted_of (reset_by g a c).decline ≡ true → c.kind ≡ power_on_reset → (reset_by g a c).state.device ≡ (reset_by g b c).state.device
   pub kept : accepted_of (reset_by g a c).decline ≡ true → (c.kind ≡ power_on_reset → ⊥)
       → ((reset_by g a c).state.device.nvmdata ≡ a.device.nvmdata) × ((reset_by g b c).state.device.nvmdata ≡ b.device.nvmdata)

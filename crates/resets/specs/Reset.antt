@@ -21,7 +21,7 @@ use Rattle.flash.specs.Write.{written_of}
 use Rattle.flash.specs.Effect.{effect_of}
 use Rattle.device.specs.Numbers.{NVMCON, NVMPWP, NVMBWP, NVMCON2}
 
--- "Kinds: 0 power_on_lem, 1 brown_out, 2 other."
+-- "Kinds: 0 power-on, 1 brown-out, 2 other."
 abbrev pub power_on_reset : ℕ
 power_on_reset = 0
 
@@ -67,7 +67,7 @@ reset_con_of d kind =
     (pick (eqb kind brown_out_reset && running d) (bit_or (clear_of d.nvmcon.0 (WR + WREN + PFSWAP + BFSWAP)) LVDERR)
     (clear_of d.nvmcon.0 (WR + WREN + PFSWAP + BFSWAP)))
 
--- "power_on_lem gives all reset values. Kinds 1 and 2 clear .. the key step and the step number, set NVMPWP, NVMBWP, NVMCON2 to
+-- "power-on gives all reset values. Kinds 1 and 2 clear .. the key step and the step number, set NVMPWP, NVMBWP, NVMCON2 to
 -- reset values, and keep the rest and NVMERS." BFSWAP is set as compared; W-209: "a non-power-on reset keeps the new register values", and
 -- nothing is launched any more
 unfoldable pub reset_device_of : Device → ℕ → Bool → Device

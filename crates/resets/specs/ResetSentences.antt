@@ -17,12 +17,12 @@ use Rattle.resets.specs.Reset.{Explained, explained_of}
 -- the device after a reset of this kind from d, but for BFSWAP
 pub record ResetDevice (d : Device) (kind : ℕ) (e : Device) : Type 0 where
   pub four : FourWords e
-  -- "Then power_on_lem gives all reset values."
+  -- "Then power-on gives all reset values."
   pub power_on_lem : kind ≡ 0 → (r : ℕ) → 0 < r → r < 11 → register_of e r ≡ get_or reset_column r 0
   pub power_on_con : kind ≡ 0 → (k : ℕ) → (k ≡ 6 → ⊥) → bit k (register_of e 0) ≡ false
   -- "Kinds 1 and 2 clear WR (house, the operation being aborted), WREN, PFSWAP": bits 15, 14 and 7 of NVMCON
   pub cleared : 0 < kind → (bit 15 (register_of e 0) ≡ false) × ((bit 14 (register_of e 0) ≡ false) × (bit 7 (register_of e 0) ≡ false))
-  -- "the key step and the step number"; of power_on_lem, too
+  -- "the key step and the step number"; of power-on, too
   pub steps : (e.keystep ≡ 0) × (e.step ≡ 0)
   -- "set NVMPWP, NVMBWP, NVMCON2 to reset values, and keep the rest and NVMERS": NVMERS is bits 31 to 28 of NVMCON2
   pub protection : 0 < kind → (register_of e 8 ≡ 0x8000_0000) × (register_of e 9 ≡ 0x9FDF)

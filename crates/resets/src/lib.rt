@@ -149,7 +149,7 @@ fn reset_device(d: Device, kind: u32, swap: bool) -> Device
     with_launched(with_con(e, con, 0, 0), no_operands())
 }
 
-// A reset: kind 0 power_on_lem, 1 brown_out, 2 other.
+// A reset: kind 0 power-on, 1 brown-out, 2 other.
 #[tactic(auto, unfolding(crate::specs::Reset::explained_of))]
 pub fn reset(
     g: Geometry,

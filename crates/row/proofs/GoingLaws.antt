@@ -29,7 +29,7 @@ pub record Going (g : Geometry) (image : List ℕ) (p : Position) : Type 0 where
 
 turns_append : (g : Geometry) (image : List ℕ) (p : Position) (a b : List (List ℕ)) → turns_of g image p (a ++ b) ≡ turns_of g image (turns_of g image p a) b
 turns_append g image p [] b = refl
-turns_append g image p (s ∷ a) b = turns_append g image _ a b
+turns_append g image p (s ∷ a) b = turns_append g image (turned_of g image p s) a b
 
 module _ (g : Geometry) (image : List ℕ) (p : Position) (h : Going g image p) where
   -- it goes on

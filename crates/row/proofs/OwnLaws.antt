@@ -15,7 +15,7 @@ use Rattle.controller.specs.Controller.Operation.{flash_read}
 use Rattle.controller.proofs.Controller.{controller}
 use Rattle.reads.specs.Read.{flash_read_of}
 use Rattle.update.specs.PowerFail.{Position, at}
-use Rattle.update.specs.Moves.{Move, moves_of}
+use Rattle.update.specs.Moves.{moved_of, Move, moves_of}
 use Rattle.row_signs.specs.declared.sign.Sign.{Sign}
 use Rattle.row_signs.specs.Signs.{sign_at}
 use Rattle.row.specs.Row.{RowState, Call, answer_of, after_of}
@@ -30,7 +30,7 @@ use Rattle.row.proofs.Supply.{supply}
 -- lists of moves one after another
 moves_append : (g : Geometry) (image : List ℕ) (p : Position) (a b : List Move) → moves_of g image p (a ++ b) ≡ moves_of g image (moves_of g image p a) b
 moves_append g image p [] b = refl
-moves_append g image p (m ∷ a) b = moves_append g image _ a b
+moves_append g image p (m ∷ a) b = moves_append g image (moved_of g image p m) a b
 
 -- ---- one move of the row
 

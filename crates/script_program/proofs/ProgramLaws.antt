@@ -1,4 +1,4 @@
--- What the play program prints: it is the play after a power_on_lem, which no decline but 14 meets, and its buffer has room.
+-- What the play program prints: it is the play after a power-on, which no decline but 14 meets, and its buffer has room.
 -- Assumes nothing.
 use mathlib.Core.Path.{◌≡◌, refl, sym}
 use mathlib.Core.Bool.{Bool, true, false}
@@ -33,7 +33,7 @@ use Rattle.script_program.specs.Program.{Printout, printed_of, taken_of, written
 use Rattle.script_play.proofs.ControllerLaws.{play_sound}
 use Rattle.script_play.proofs.PlayLaws.{lines-length}
 
--- any power_on_lem of the program's banks gives its device
+-- any power-on of the program's banks gives its device
 pub power_on_there : (d : Device) → reset_device_of d 0 (compared_of smallest first_bank erased_bank) ≡ power_on
 unfolding reset_device_of reset_con_of compare_of valid_of complement_of
 power_on_there d = refl

@@ -24,7 +24,7 @@ erased_bank = replicate (bank_words_of smallest) all_ones
 abbrev pub first_bank : List ℕ
 first_bank = set erased_bank (sequence_index_of smallest) 0xFFFE_0001
 
--- "after power_on_lem" (`power_on_there` of proofs/ProgramLaws: any power_on_lem of these banks gives this device)
+-- "after power-on" (`power_on_there` of proofs/ProgramLaws: any power-on of these banks gives this device)
 abbrev pub start_of : State
 start_of = state power_on first_bank erased_bank
 

@@ -8,14 +8,14 @@ use Rattle.script_format.specs.ScriptSentences.{Script}
 use Rattle.script_play.specs.Play.{lines_of}
 use Rattle.script_program.specs.Program.{printed_of}
 
--- "Q=B=P=1, all ones but bank 1's sequence word 0xFFFE0001, no SRAM, after power_on_lem": "A bank is lent as N×32×Q words.", and the sequence word is
+-- "Q=B=P=1, all ones but bank 1's sequence word 0xFFFE0001, no SRAM, after power-on": "A bank is lent as N×32×Q words.", and the sequence word is
 -- "word 0 of the last quad of the last boot page"
 pub record Bench (s : State) : Type 0 where
   pub long : (length s.one ≡ 64) × (length s.two ≡ 64)
   pub sequence : word_at s.one 28 ≡ 0xFFFE_0001
   pub first : (w : ℕ) → w < 64 → (w ≡ 28 → ⊥) → word_at s.one w ≡ 0xFFFF_FFFF
   pub other : (w : ℕ) → w < 64 → word_at s.two w ≡ 0xFFFF_FFFF
-  -- a power_on_lem is accepted and leaves it as it is
+  -- a power-on is accepted and leaves it as it is
   pub power_on_lem : reset_of (record { q = 1; b = 1; p = 1 }) s [] 0 (0 ∷ 0 ∷ 0 ∷ 0 ∷ []) ≡ after Decline.Accepted s false
 
 pub record ProgramSentences : Type 0 where

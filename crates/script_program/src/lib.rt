@@ -23,7 +23,7 @@ const BANK: usize = 64;
 
 const SEQUENCE: usize = 28;
 
-// Plays a script after power_on_lem on banks of all ones but bank 1's sequence word.
+// Plays a script after power-on on banks of all ones but bank 1's sequence word.
 fn play_after_power_on(script: &[u8], out: &mut [u8]) -> Played
     ensures decline_value { result.decline ≡ (play_of smallest [] start_of script.now out.old).decline }
     ensures out_after { printout result.bytes out.new ≡ taken_of (play_of smallest [] start_of script.now out.old) }

@@ -41,7 +41,7 @@ pub record Used (g : Geometry) (bank : List ℕ) (n j : ℕ) : Type 0 where
 
 -- ---- lines
 
--- a number "right_aligned" in so many columns, by the byte at each position: digit k, counted from the right, stands k before the last;
+-- a number "right-aligned" in so many columns, by the byte at each position: digit k, counted from the right, stands k before the last;
 -- "Number padding is blanks."
 pub record RightAligned (at : ℕ → ℕ) (last columns n : ℕ) : Type 0 where
   pub fits : n < 10 ^ columns
@@ -54,7 +54,7 @@ pub record Line (g : Geometry) (d : Device) (bank : List ℕ) (second program : 
   pub number : at 0 ≡ pick second 50 49
   -- "B or P"
   pub kind : at 2 ≡ pick program 80 66
-  -- "page of its kind from 0 in three columns right_aligned"
+  -- "page of its kind from 0 in three columns right-aligned"
   pub page : RightAligned at 6 3 i
   -- "L or U for its present side": L exactly where the map puts it into a lower window
   pub side : (address : ℕ) → PageAt g d second (page_in_bank g program i) address → at 8 ≡ pick (locate_of g address).upper 85 76
@@ -63,7 +63,7 @@ pub record Line (g : Geometry) (d : Device) (bank : List ℕ) (second program : 
       → let pwp = d.nvmpwp.0 % 2 ^ 24 in at 10 ≡ pick (not (eqb pwp 0) && leb (address - 0x1D00_0000) pwp) 49 48
   pub boot_protected : program ≡ false → (address : ℕ) → PageAt g d second (page_in_bank g program i) address
       → at 10 ≡ pick (bit (pick (locate_of g address).upper i (8 + i)) d.nvmbwp.0) 49 48
-  -- "quads that aren't all ones in four columns right_aligned"
+  -- "quads that aren't all ones in four columns right-aligned"
   pub quads : List ℕ
   pub used : Ascending (Used g bank (page_in_bank g program i)) (8 * g.q) quads
   pub count : RightAligned at 15 4 (length quads)
@@ -88,7 +88,7 @@ pub record PageSheet (g : Geometry) (d : Device) (one two buffer : List ℕ) (a 
   -- "Bytes past the sheet keep their contents."
   pub rest : number_of a.decline ≡ 0 → (k : ℕ) → 34 * (g.b + g.p) ≤ k → get_or a.buffer k 0 ≡ get_or buffer k 0
 
--- ---- two lines, computed: a sign with one page of each kind after power_on_lem; bank 1 is erased but for its sequence word, bank 2 has zeros
+-- ---- two lines, computed: a sign with one page of each kind after power-on; bank 1 is erased but for its sequence word, bank 2 has zeros
 
 abbrev pub small_sign : Geometry
 small_sign = record { q = 1; b = 1; p = 1 }

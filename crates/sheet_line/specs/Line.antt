@@ -5,7 +5,7 @@ use Rattle.text.specs.Digits.{digits_of, width_of}
 use Rattle.text.specs.Lines.{blank, line_feed, flag_of}
 use Rattle.sheet_page.specs.declared.PageState.{PageState}
 
--- a number "right_aligned" in so many columns: "Number padding is blanks."
+-- a number "right-aligned" in so many columns: "Number padding is blanks."
 abbrev pub right_of : ℕ → ℕ → List ℕ
 right_of columns n = replicate (columns - width_of n) blank ++ digits_of 10 n (width_of n)
 
@@ -29,8 +29,8 @@ kind_letter_of program = pick program 80 66
 abbrev pub side_letter_of : Bool → ℕ
 side_letter_of upper = pick upper 85 76
 
--- "bank, blank, B or P, blank, page of its kind from 0 in three columns right_aligned, blank, L or U for its present side, blank, 1 if
--- protected else 0, blank, quads that aren't all ones in four columns right_aligned, line feed"
+-- "bank, blank, B or P, blank, page of its kind from 0 in three columns right-aligned, blank, L or U for its present side, blank, 1 if
+-- protected else 0, blank, quads that aren't all ones in four columns right-aligned, line feed"
 unfoldable pub line_of : PageState → List ℕ
 line_of s =
     right_column_of 1 (bank_number_of s.second) blank

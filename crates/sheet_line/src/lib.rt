@@ -24,7 +24,7 @@ fn put_blanks(out: &mut [u8], at: usize, count: usize)
     }
 }
 
-// Writes a number right_aligned in so many columns.
+// Writes a number right-aligned in so many columns.
 fn put_right(out: &mut [u8], at: usize, columns: usize, number: usize)
     requires number_bound { width_of number ≤ columns }
     requires columns_in_bounds { at + columns ≤ length out.old }
@@ -36,7 +36,7 @@ fn put_right(out: &mut [u8], at: usize, columns: usize, number: usize)
     put_digits(out, at + padding, number, 10, count);
 }
 
-// Writes a number right_aligned in so many columns, and the byte after it.
+// Writes a number right-aligned in so many columns, and the byte after it.
 fn put_right_column(out: &mut [u8], at: usize, columns: usize, number: usize, end: u8)
     requires number_bound { width_of number ≤ columns }
     requires columns_in_bounds { at + columns + 1 ≤ length out.old }

@@ -17,7 +17,7 @@ use Rattle.update.specs.Actions.{total_of}
 use Rattle.update.specs.Start.{clash_of, sequence_allows_of, upper_free_of, start_decline_of, start_of}
 use Rattle.update.specs.Bench.{smallest, bench_bank, Bench}
 
--- any power_on_lem of the banks of the answers gives the device of `bench_state`
+-- any power-on of the banks of the answers gives the device of `bench_state`
 abbrev PowersOn : ℕ → ℕ → Type 0
 PowersOn first second = (d : Device) → reset_device_of d 0 (compared_of smallest (bench_bank first) (bench_bank second)) ≡ power_on
 

@@ -1,4 +1,4 @@
--- The example's start is accepted by computation, its words are of 32 bits, and its run is that of power_fail safety.
+-- The example's start is accepted by computation, its words are of 32 bits, and its run is that of power-fail safety.
 -- Assumes nothing.
 use mathlib.Core.Path.{◌≡◌, refl, ◌∙◌}
 use mathlib.Core.Bool.{true}

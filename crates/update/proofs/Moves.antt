@@ -1,4 +1,4 @@
--- Moves leave what turns leave, so what power_fail safety says of turns holds of them. Assumes nothing.
+-- Moves leave what turns leave, so what power-fail safety says of turns holds of them. Assumes nothing.
 use mathlib.Core.Path.{◌≡◌, refl, sym, ap, ◌∙◌}
 use mathlib.Core.Bool.{Bool, true, false, not, ◌&&◌}
 use mathlib.Core.Logic.{◌⊎◌, inl, inr}

@@ -17,7 +17,7 @@ use Rattle.update.specs.OneTry.{one_try, OneTry}
 use Rattle.update.proofs.PlacedLaws.{same_bank}
 use Rattle.update.proofs.Moves.{moves_fail}
 
--- a power_on_lem with no bit torn
+-- a power-on with no bit torn
 power_on : Cut
 power_on = record { sram = []; kind = 0; mask = [] }
 
@@ -47,7 +47,7 @@ module _ (g : Geometry) (image : List ℕ) (tries : Tries g image) where
     each : (y : Try) → EachTry g s image s y
     each y = tries.each s update [] tt (tries.none s update).0 y
 
-    -- run A: cut by a power_on_lem it ends with the new, and with its own banks
+    -- run A: cut by a power-on it ends with the new, and with its own banks
     module _ (A : List (List ℕ)) (done : place_after g s image A ≡ total_of g) where
       new_runs : (c : Cut) → accepted_of (reset_by g (after_turns g s image A) c).decline ≡ true
           → Runs (restarted g (after_turns g s image A) c) (not (old s)) (new_bank_of g s image)

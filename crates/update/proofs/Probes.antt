@@ -1,4 +1,4 @@
--- Turns with a probe's reads between them stand where the turns alone stand, so power_fail safety is theirs. Assumes nothing.
+-- Turns with a probe's reads between them stand where the turns alone stand, so power-fail safety is theirs. Assumes nothing.
 use mathlib.Core.Path.{◌≡◌, refl, ap, ◌∙◌}
 use mathlib.Core.Bool.{true}
 use mathlib.Core.List.{List, [], ◌∷◌}

@@ -144,7 +144,7 @@ store_quad g d r form value =
 -- and so do stores in a row
 pub stores_quad : (g : Geometry) (d : Device) (l : List Access) → length (stores_of g d l).nvmdata ≡ length d.nvmdata
 stores_quad g d [] = refl
-stores_quad g d (a ∷ l) = stores_quad g _ l ∙ store_quad g d a.register a.form a.value
+stores_quad g d (a ∷ l) = stores_quad g (store_of g d a.register a.form a.value).device l ∙ store_quad g d a.register a.form a.value
 
 -- and so does a step
 pub step_quad : (g : Geometry) (d : Device) (aborts : Bool) → length (advance_of g d aborts).device.nvmdata ≡ length d.nvmdata

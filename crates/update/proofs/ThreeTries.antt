@@ -10,7 +10,7 @@ use lib.ListN.{length, length-replicate}
 use Rattle.words.specs.Decline.{accepted_of}
 use Rattle.device.specs.State.{State}
 use Rattle.update.specs.Actions.{total_of}
-use Rattle.update.specs.PowerFail.{Position, at, started_up, reset_by, old, Lower, Runs, new_bank_of, Update}
+use Rattle.update.specs.PowerFail.{turned_of, Position, at, started_up, reset_by, old, Lower, Runs, new_bank_of, Update}
 use Rattle.update.specs.Moves.{moves_of, waits_in, turn_moves}
 use Rattle.update.specs.Bench.{smallest}
 use Rattle.update.specs.Example.{example_state, example_image, empty_srams}
@@ -22,9 +22,9 @@ use Rattle.update.proofs.Tries.{tries}
 use Rattle.update.proofs.Example.{example_update, total_is, empty_short, new_bank_lem}
 
 -- turns alone hold no read
-none_wait : (p : Position) (n : ℕ) → waits_in smallest example_image p (turn_moves (empty_srams n)) ≡ false
-none_wait p zero = refl
-none_wait p (suc n) = none_wait _ n
+none_wait : (n : ℕ) (p : Position) → waits_in smallest example_image p (turn_moves (empty_srams n)) ≡ false
+none_wait zero p = refl
+none_wait (suc n) p = none_wait n (turned_of smallest example_image p [])
 
 -- so many turns of an update raise its place as often
 raised : (s : State) → Update smallest s example_image → (n : ℕ) → n ≤ total_of smallest
@@ -54,7 +54,7 @@ erasing_ok = (each [] tt begins in_erasing).cuts in_erasing.cut (omega arith) (o
 
 erasing_old : Lower first (old example_state)
 erasing_old =
-    (each [] tt begins in_erasing).early (none_wait (at example_state 0) 20) refl
+    (each [] tt begins in_erasing).early (none_wait 20 (at example_state 0)) refl
     (inl (omega (arith, total_is, raised example_state example_update 20 (omega (arith, total_is))))) erasing_ok
 
 one : Tried smallest example_image (old example_state) example_state (in_erasing ∷ [])
@@ -68,7 +68,7 @@ last_ok = (each (in_erasing ∷ []) one erasing_old in_last_step).cuts in_last_s
 
 last_old : Lower second (old example_state)
 last_old =
-    (each (in_erasing ∷ []) one erasing_old in_last_step).early (none_wait (at first 0) 250) refl
+    (each (in_erasing ∷ []) one erasing_old in_last_step).early (none_wait 250 (at first 0)) refl
     (inr (omega (arith, total_is, raised first first_update 250 (omega (arith, total_is))), refl)) last_ok
 
 two : Tried smallest example_image (old example_state) example_state (in_erasing ∷ in_last_step ∷ [])

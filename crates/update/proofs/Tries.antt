@@ -14,7 +14,7 @@ use Rattle.geometry.specs.declared.banks.Geometry.{Geometry}
 use Rattle.sequence.specs.Sequence.{sequence_quad_of, sequence_index_of, next_sequence_of}
 use Rattle.device.specs.State.{State, bank_of}
 use Rattle.start_up.specs.StartUp.{Access, start_up_stores, start_up_of}
-use Rattle.controller.specs.Controller.{Operation, store_operations, AllAccepted, Keeps}
+use Rattle.controller.specs.Controller.{Operation, store, transition_of, store_operations, AllAccepted, Keeps}
 use Rattle.controller.proofs.StartUpLaws.{cut_stores_run}
 use Rattle.controller.proofs.Controller.{controller}
 use Rattle.update.specs.Actions.{total_of}
@@ -31,14 +31,12 @@ use Rattle.update.proofs.TryLaws.{rested_sound, try_fixed, fails_sound, fails_ke
 
 -- ---- the stores of a start-up
 -- the first of operations that are all carried out
-prefix_accepted : (g : Geometry) (s : State) (l : List Access) → AllAccepted g s (store_operations l) → (n : ℕ) → AllAccepted g s (store_operations (take n l))
-prefix_accepted g s l all zero = nothing l
-  where
-    nothing : (l : List Access) → AllAccepted g s (store_operations (take 0 l))
-    nothing [] = tt
-    nothing (a ∷ l) = tt
-prefix_accepted g s [] all (suc n) = tt
-prefix_accepted g s (a ∷ l) (first, later) (suc n) = (first, prefix_accepted g _ l later n)
+prefix_accepted : (g : Geometry) (l : List Access) (n : ℕ) (s : State) → AllAccepted g s (store_operations l) → AllAccepted g s (store_operations (take n l))
+prefix_accepted g [] zero s all = tt
+prefix_accepted g [] (suc n) s all = tt
+prefix_accepted g (a ∷ l) zero s all = tt
+prefix_accepted g (a ∷ l) (suc n) s all =
+    (all.0, prefix_accepted g l n (transition_of g s (store a.register a.form a.value)) all.1)
 
 -- ---- the very first start, and a state whose old bank is the same
 module _ (g : Geometry) (image : List ℕ) (s : State) (update : Update g s image) where
@@ -113,8 +111,8 @@ module _ (g : Geometry) (image : List ℕ) (s : State) (update : Update g s imag
           start_up = λ ok. starts_up (try_fixed g image t again y) _ (tried_rests g image t again y ok);
           stores =
               λ ok n.
-              prefix_accepted g _ (start_up_stores (tried_of g image t y).device)
-              (controller.start_up_accepted g _ (starts_up (try_fixed g image t again y) _ (tried_rests g image t again y ok))) n;
+              prefix_accepted g (start_up_stores (tried_of g image t y).device) n _
+              (controller.start_up_accepted g _ (starts_up (try_fixed g image t again y) _ (tried_rests g image t again y ok)));
           early =
               λ unwaited end early ok. let (boot, program) = early_runs g image t again y ok unwaited end early in
               (boot ∙ begins.same_old, program ∙ begins.same_old);

@@ -12,8 +12,8 @@ use Rattle.device.specs.State.{State, state}
 use Rattle.update.specs.Actions.{total_of}
 use Rattle.update.specs.Start.{start_of}
 
--- the bench: "Q=B=P=1, all ones but bank 1's sequence word", and here bank 2's too, "after power_on_lem" (`bench_power_on` of proofs/Bench: any
--- power_on_lem of the banks below gives this device)
+-- the bench: "Q=B=P=1, all ones but bank 1's sequence word", and here bank 2's too, "after power-on" (`bench_power_on` of proofs/Bench: any
+-- power-on of the banks below gives this device)
 abbrev pub smallest : Geometry
 smallest = record { q = 1; b = 1; p = 1 }
 

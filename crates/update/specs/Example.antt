@@ -1,4 +1,4 @@
--- The hypotheses of power_fail safety are met: an update that is accepted, and its run. Assumes nothing.
+-- The hypotheses of power-fail safety are met: an update that is accepted, and its run. Assumes nothing.
 use Rattle.std.specs.Prelude.{ℕ, ◌≤◌, ◌≡◌, true, List, [], length, replicate}
 use Rattle.words.specs.Word.{all_ones}
 use Rattle.geometry.specs.Banks.{bank_words_of}

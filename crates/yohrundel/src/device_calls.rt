@@ -12,7 +12,7 @@ use geometry::banks::Geometry;
 use register_access::{register_read, store};
 use start_up::start_up;
 
-// The device after power_on_lem, before any comparison of banks.
+// The device after power-on, before any comparison of banks.
 #[unsafe(no_mangle)]
 pub extern "C" fn yohrundel_power_on_2() -> Device
     ensures { result ≡ power_on }

@@ -1,5 +1,5 @@
 -- An accepted reset tells that what is lent fits and that the device is possible; the tear leaves the banks as long.
-use Rattle.std.proofs.Common.{sym, ◌∙◌, arith}
+use Rattle.std.proofs.Common.{sym, ◌∙◌}
 use Rattle.resets.proofs.AcceptedLaws.{reset_ready}
 use Rattle.resets.proofs.reset.Goals as goal
 
