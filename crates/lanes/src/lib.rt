@@ -8,6 +8,7 @@ use lanes_interleave::blocks::{block_end, words_back};
 use words::decline::Decline;
 
 // Why a way out or back is declined, by the lengths of its source and target.
+#[tactic(auto, unfolding(crate::specs::Lanes::lanes_decline_of))]
 fn lanes_decline(source: usize, target: usize) -> Decline
     ensures { result ≡ lanes_decline_of source target }
 {

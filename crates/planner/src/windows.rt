@@ -10,6 +10,7 @@ const LONGEST_DURATION: u32 = 1440;
 const MOST_WINDOWS: usize = 14;
 
 // Whether the present minute, the duration and the count of windows are in range, where so many numbers are lent for the windows.
+#[tactic(auto, unfolding(crate::specs::Windows::numbers_in_range_of))]
 pub fn numbers_in_range(minute: u32, duration: u32, numbers: usize) -> bool
     ensures { result ≡ numbers_in_range_of minute duration numbers }
 {
@@ -32,6 +33,7 @@ pub fn numbers_in_range(minute: u32, duration: u32, numbers: usize) -> bool
 }
 
 // Whether the two numbers of a window are in range.
+#[tactic(auto, unfolding(crate::specs::Windows::window_in_range_of))]
 pub fn window_in_range(start: u32, length: u32) -> bool
     ensures { result ≡ window_in_range_of (window start length) }
 {

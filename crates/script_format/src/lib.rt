@@ -82,6 +82,7 @@ pub fn put_record(out: &mut [u8], at: usize, r: Record)
     );
 }
 
+#[tactic(auto, unfolding(crate::specs::Records::is_store_of))]
 fn is_store(r: Record) -> bool
     ensures { result ≡ is_store_of r }
 {
@@ -91,6 +92,7 @@ fn is_store(r: Record) -> bool
     r.form <= 3
 }
 
+#[tactic(auto, unfolding(crate::specs::Records::is_step_of))]
 fn is_step(r: Record) -> bool
     ensures { result ≡ is_step_of r }
 {
@@ -103,6 +105,7 @@ fn is_step(r: Record) -> bool
     r.value == 0
 }
 
+#[tactic(auto, unfolding(crate::specs::Records::is_reset_of))]
 fn is_reset(r: Record) -> bool
     ensures { result ≡ is_reset_of r }
 {
@@ -116,6 +119,7 @@ fn is_reset(r: Record) -> bool
 }
 
 // Whether a record has a known kind, register, form or reset kind, and its unused bytes at 0.
+#[tactic(auto, unfolding(crate::specs::Records::is_record_of))]
 fn is_record(r: Record) -> bool
     ensures { result ≡ is_record_of r }
 {

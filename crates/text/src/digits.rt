@@ -5,6 +5,7 @@ ghost use Rattle.std.proofs.lemmas.List.Edits.{sets};
 ghost use Rattle.text.specs.Digits.{digit_of, digits_of, width_of};
 
 // The ASCII code of a digit.
+#[tactic(auto, unfolding(crate::specs::Digits::digit_of))]
 fn digit(value: usize) -> u8
     requires { value < 16 }
     ensures { result ≡ digit_of value }
