@@ -19,6 +19,7 @@ use row_signs::row::Row;
 use row_turn::serve;
 
 // The turn of the record that is served, or nothing where nobody is.
+#[tactic(auto, unfolding(crate::specs::Schedule::serving_of))]
 fn serve_choice(
     g: Geometry,
     row: Row,
@@ -57,6 +58,7 @@ fn serve_choice(
 }
 
 // One call for the first n records of a row.
+#[tactic(auto, unfolding(crate::specs::Schedule::schedule_row_of))]
 pub fn schedule_row(
     g: Geometry,
     k: u32,

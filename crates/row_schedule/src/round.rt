@@ -29,6 +29,7 @@ pub struct Search {
 }
 
 // How a sign stands to be served: record j.
+#[tactic(auto, unfolding(crate::specs::Round::stand_of))]
 fn stand_of(
     g: Geometry,
     queue: Queue,
