@@ -9,8 +9,7 @@ use Rattle.device.specs.Record.{running}
 use Rattle.common_declines.specs.CommonDecline.{common_decline_of}
 use Rattle.register_access.specs.Store.{has_form_of, may_store_of, store_of}
 use Rattle.flash.specs.Step.{step_of}
-use Rattle.device.specs.State.{State, After, answered_of, lent}
-use Rattle.std.specs.Borrow.{Bor}
+use Rattle.device.specs.State.{State, After, answered_of, state}
 use Rattle.flash.specs.Write.{written_of}
 use Rattle.update.specs.declared.turn.Turned.{Turned}
 use Rattle.update.specs.declared.turn.TurnEffect.{TurnEffect}
@@ -79,8 +78,8 @@ abbrev pub effected_of : State → TurnEffect → Turning
 effected_of s e = let t = e.turned in turning t.decline t.done (written_of s t.device e.write) t.place t.event
 
 -- in contracts: an answer with the banks as they are then
-abbrev pub turn_leaves : Turned → Bor (List ℕ) → Bor (List ℕ) → Turning
-turn_leaves t one two = turning t.decline t.done (lent t.device one two) t.place t.event
+abbrev pub turn_leaves : Turned → List ℕ → List ℕ → Turning
+turn_leaves t one two = turning t.decline t.done (state t.device one two) t.place t.event
 
 -- what holds of every turn, whatever it is given
 pub record EveryTurn (g : Geometry) (s : State) (image sram : List ℕ) (place : ℕ) : Type 0 where

@@ -12,6 +12,7 @@ use geometry::banks::{Geometry, page_quads, pages};
 use update::actions::Action;
 
 // How many actions an update has.
+#[tactic(auto, unfolding(update::specs::Actions::total_of))]
 pub fn total(g: Geometry) -> u32
     requires { InRange g }
     ensures { result ≡ total_of g }
@@ -56,6 +57,7 @@ pub fn launch_action(op: u32, k: u32) -> Action
 }
 
 // Page i of the erasing, by its number in the bank.
+#[tactic(auto, unfolding(update::specs::Actions::erased_page_of))]
 fn erased_page(g: Geometry, i: u32) -> u32
     requires { InRange g }
     ensures { result ≡ erased_page_of g i }
@@ -70,6 +72,7 @@ fn erased_page(g: Geometry, i: u32) -> u32
 }
 
 // Action k of a page of the bank: its stores, its steps, its end.
+#[tactic(auto, unfolding(update::specs::Actions::page_action_of))]
 fn page_action(g: Geometry, page: u32, k: u32) -> Action
     requires in_range { InRange g }
     requires page_bound { page < pages_of g }
@@ -88,6 +91,7 @@ fn page_action(g: Geometry, page: u32, k: u32) -> Action
 }
 
 // The action of a place.
+#[tactic(auto, unfolding(update::specs::Actions::action_at_of))]
 pub fn action_at(g: Geometry, image: &[u32], w: u32, place: u32) -> Action
     requires in_range { InRange g }
     requires image_len { length image.now ≡ bank_words_of g }

@@ -14,6 +14,7 @@ use update::actions::Action;
 use words::quad::quad_at;
 
 // Where a quad of a bank stands on the upper side.
+#[tactic(auto, unfolding(update::specs::Actions::upper_address_of))]
 pub fn upper_address(g: Geometry, quad: u32) -> u32
     requires in_range { InRange g }
     requires quad_bound { quad < bank_quads_of g }
@@ -26,6 +27,7 @@ pub fn upper_address(g: Geometry, quad: u32) -> u32
 }
 
 // Quad i of the programming, by its number in the bank.
+#[tactic(auto, unfolding(update::specs::Actions::programmed_quad_of))]
 fn programmed_quad(g: Geometry, i: u32) -> u32
     requires in_range { InRange g }
     requires i_bound { i < bank_quads_of g }
@@ -39,6 +41,7 @@ fn programmed_quad(g: Geometry, i: u32) -> u32
 }
 
 // A quad of the new bank, for the old bank's sequence word w.
+#[tactic(auto, unfolding(update::specs::Actions::new_quad_of))]
 fn new_quad(g: Geometry, image: &[u32], w: u32, quad: u32) -> [u32; 4]
     requires in_range { InRange g }
     requires image_len { length image.now ≡ bank_words_of g }
@@ -52,6 +55,7 @@ fn new_quad(g: Geometry, image: &[u32], w: u32, quad: u32) -> [u32; 4]
 }
 
 // Action k of quad i of the programming.
+#[tactic(auto, unfolding(update::specs::Actions::quad_action_of))]
 pub fn quad_action(g: Geometry, image: &[u32], w: u32, i: u32, k: u32) -> Action
     requires in_range { InRange g }
     requires image_len { length image.now ≡ bank_words_of g }

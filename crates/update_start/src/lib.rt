@@ -21,6 +21,7 @@ use words::decline::Decline;
 use words::word::has;
 
 // Whether a bit position is at 1 in both halves.
+#[tactic(auto, unfolding(update::specs::Start::clash_of))]
 fn clashes(w: u32) -> bool
     ensures { result ≡ clash_of w }
 {
@@ -28,6 +29,7 @@ fn clashes(w: u32) -> bool
 }
 
 // Whether decline 10 does not apply.
+#[tactic(auto, unfolding(update::specs::Start::sequence_allows_of))]
 fn sequence_allows(g: Geometry, d: Device, one: &[u32], two: &[u32]) -> bool
     requires in_range { InRange g }
     requires one_len { (length one.now ≡ bank_words_of g) × (length two.now ≡ bank_words_of g) }
@@ -53,6 +55,7 @@ fn sequence_allows(g: Geometry, d: Device, one: &[u32], two: &[u32]) -> bool
 }
 
 // Whether decline 12 does not apply.
+#[tactic(auto, unfolding(update::specs::Start::upper_free_of))]
 fn is_upper_free(g: Geometry, d: Device) -> bool
     requires { InRange g }
     ensures { result ≡ upper_free_of g d }
@@ -63,6 +66,7 @@ fn is_upper_free(g: Geometry, d: Device) -> bool
     pwp(d) < program_bytes(g)
 }
 
+#[tactic(auto, unfolding(update::specs::Start::start_decline_of))]
 fn start_decline(g: Geometry, d: Device, one: &[u32], two: &[u32], image: usize) -> Decline
     ensures { result ≡ start_decline_of g (lent d one.entry two.entry) image }
 {
@@ -86,6 +90,7 @@ fn start_decline(g: Geometry, d: Device, one: &[u32], two: &[u32], image: usize)
 }
 
 // Starts an update: it changes nothing.
+#[tactic(auto, unfolding(update::specs::Start::start_of))]
 pub fn start(g: Geometry, d: Device, one: &[u32], two: &[u32], image: &[u32]) -> Started
     ensures { result ≡ start_of g (lent d one.entry two.entry) image.now }
 {
