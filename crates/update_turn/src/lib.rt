@@ -4,7 +4,7 @@
 ghost use Rattle.std.specs.Prelude.{◌≡◌, true, false, ◌+◌, ◌≤◌, ◌<◌, length};
 ghost use Rattle.geometry.specs.Lent.{most_sram};
 ghost use Rattle.geometry.specs.Banks.{in_range_of, bank_words_of};
-ghost use Rattle.device.specs.State.{lent};
+ghost use Rattle.device.specs.State.{state, lent};
 ghost use Rattle.common_declines.specs.Possible.{possible_of};
 ghost use Rattle.flash.specs.Write.{no_write, Fits};
 ghost use Rattle.update.specs.Turn.{Formed, act_of, turn_of, effected_of, turn_leaves};
@@ -64,6 +64,7 @@ fn going(answer: Answer, write: Write, place: u32) -> TurnEffect
 }
 
 // The effect of the action of a place, or its decline. No call of the updater: turn_effect judges the other declines first.
+#[tactic(auto, unfolding(update::specs::Turn::act_of))]
 fn act(
     g: Geometry,
     d: Device,
@@ -102,6 +103,7 @@ fn act(
 }
 
 // The effect of a turn: the action of its place and no other; done at the total and only there.
+#[tactic(auto, unfolding(update::specs::Turn::turn_of, update::specs::Turn::turn_decline_of, update::specs::Turn::act_of))]
 pub fn turn_effect(
     g: Geometry,
     d: Device,
@@ -141,8 +143,8 @@ pub fn turn(
     sram: &[u32],
     place: u32,
 ) -> Turned
-    ensures { turn_leaves result one.exit two.exit
-        ≡ turn_of g (lent d one.entry two.entry) image.now sram.now place }
+    ensures { turn_leaves result one.new two.new
+        ≡ turn_of g (state d one.old two.old) image.now sram.now place }
 {
     let e = turn_effect(g, d, one, two, image, sram, place);
     let write = e.write;

@@ -1,0 +1,62 @@
+-- Declined by WR, which lets pass stores to registers 2 to 7, or carried out as the store or the step that it is; only a step writes.
+use Rattle.std.proofs.Common.{◌≡◌, true, sym, ap, ◌∙◌}
+use Rattle.geometry.proofs.SizeLaws.{in-range}
+use Rattle.device.specs.Record.{running}
+use Rattle.device.specs.State.{state}
+use Rattle.register_access.specs.Store.{may_store_of}
+use Rattle.register_access.proofs.AcceptedLaws.{store_carried}
+use Rattle.flash.specs.declared.step.StepEffect.{StepEffect}
+use Rattle.flash.proofs.AcceptedLaws.{runs, advance_accepts}
+use Rattle.flash.proofs.EffectLaws.{effect_fits}
+use Rattle.controller.specs.Controller.{Sound}
+use Rattle.update.specs.declared.turn.TurnEffect.{TurnEffect}
+use Rattle.update.specs.Turn.{act_of}
+use Rattle.update.proofs.FormLaws.{step_carried}
+use Rattle.update_turn.proofs.act.Goals as goal
+
+pub store_accepted-requires : goal.store_accepted-requires
+store_accepted-requires c = in-range c.args.g c.requires.g_value
+
+pub returns-else-not-may_store-clause-result_value : goal.returns-else-not-may_store-clause-result_value
+unfolding act_of
+returns-else-not-may_store-clause-result_value c =
+    let a = c.args in
+    let may : may_store_of a.d c.in-Store.number ≡ true = sym c.may_store.ensures ∙ c.if-not-may_store.false in
+    let formed = rw c.in-Store.is at c.requires.formed in
+    rw (
+      c.going.ensures,
+      c.no_write.ensures,
+      c.in-Store.is,
+      may,
+      store_carried a.g a.d _ _ _ c.requires.g_value c.requires.d_value formed may,
+      c.store_accepted.ensures,
+    )
+
+-- an operation runs
+pub step_effect-e-requires-clause-runs : goal.step_effect-e-requires-clause-runs
+step_effect-e-requires-clause-runs c =
+    let a = c.args in
+    runs a.g a.d (in-range a.g c.requires.g_value) c.requires.d_value (sym c.has.ensures ∙ c.if-not-has.false)
+
+pub returns-else-not-has-clause-result_value : goal.returns-else-not-has-clause-result_value
+unfolding act_of
+returns-else-not-has-clause-result_value c =
+    let a = c.args in
+    let on : running a.d ≡ true = sym c.has.ensures ∙ c.if-not-has.false in
+    let s = state a.d a.one.now a.two.now in
+    let sound : Sound a.g s = record { possible = c.requires.d_value; first = c.requires.one_len.0; other = c.requires.one_len.1 } in
+    rw (
+      c.going-in-Step.ensures,
+      c.step_effect-e.ensures,
+      c.in-Step.is,
+      on,
+      step_carried a.g s a.sram.now c.requires.g_value sound c.requires.sram_len_bound on,
+      advance_accepts,
+    )
+
+pub returns-else-not-has-clause-fits : goal.returns-else-not-has-clause-fits
+returns-else-not-has-clause-fits c =
+    let a = c.args in
+    let on : running a.d ≡ true = sym c.has.ensures ∙ c.if-not-has.false in
+    rw (ap (λ (e : TurnEffect). e.write) c.going-in-Step.ensures, ap (λ (e : StepEffect). e.write) c.step_effect-e.ensures)
+    (effect_fits a.g (state a.d a.one.now a.two.now) a.sram.now (runs a.g a.d (in-range a.g c.requires.g_value) c.requires.d_value on) c.requires.one_len)
