@@ -2,7 +2,7 @@
 #![tactic(auto)]
 
 ghost use Rattle.std.specs.Prelude.{◌≡◌};
-ghost use Rattle.device.specs.State.{lent};
+ghost use Rattle.device.specs.State.{lent, state};
 ghost use Rattle.script_play.specs.Play.{play_decline_of, playback, played_of, play_of, play_length_of};
 
 use common_declines::common_decline::common_decline;
@@ -30,6 +30,7 @@ pub struct PlayLength {
     pub bytes: usize,
 }
 
+#[tactic(auto, unfolding(crate::specs::Play::play_decline_of))]
 fn play_decline(
     g: Geometry,
     d: Device,
@@ -60,8 +61,8 @@ fn play_accepted(
     script: &[u8],
     out: &mut [u8],
 ) -> Played
-    ensures { playback result.decline result.bytes (lent result.device one.exit two.exit) out.new
-        ≡ played_of g sram.now (lent d one.entry two.entry) script.now out.old }
+    ensures { playback result.decline result.bytes (state result.device one.new two.new) out.new
+        ≡ played_of g sram.now (state d one.old two.old) script.now out.old }
 {
     let mut device = d;
     let mut bytes = 0;
@@ -81,6 +82,7 @@ fn play_accepted(
 }
 
 // Plays a script on two banks and an SRAM from a device, with a line for each record in a buffer of any length.
+#[tactic(auto, unfolding(crate::specs::Play::play_of))]
 pub fn play(
     g: Geometry,
     d: Device,
@@ -90,8 +92,8 @@ pub fn play(
     script: &[u8],
     out: &mut [u8],
 ) -> Played
-    ensures { playback result.decline result.bytes (lent result.device one.exit two.exit) out.new
-        ≡ play_of g sram.now (lent d one.entry two.entry) script.now out.old }
+    ensures { playback result.decline result.bytes (state result.device one.new two.new) out.new
+        ≡ play_of g sram.now (state d one.old two.old) script.now out.old }
 {
     let decline = play_decline(g, d, one.len(), two.len(), sram.len(), script);
     if !decline.is_accepted() {
@@ -105,6 +107,7 @@ pub fn play(
 }
 
 // The bytes of the whole output of a play on the same inputs, so that a buffer can be lent that holds it.
+#[tactic(auto, unfolding(crate::specs::Play::play_length_of, crate::specs::Play::play_of))]
 pub fn play_length(
     g: Geometry,
     d: Device,

@@ -2,7 +2,7 @@
 #![tactic(auto)]
 
 ghost use Rattle.std.specs.Prelude.{◌≡◌};
-ghost use Rattle.device.specs.State.{lent, leaves};
+ghost use Rattle.device.specs.State.{state, leaves};
 ghost use Rattle.script_record.specs.Record.{record_after_of};
 
 use device::answer::Answer;
@@ -14,6 +14,7 @@ use resets::reset;
 use script_format::Record;
 
 // Plays one record.
+#[tactic(auto, unfolding(crate::specs::Record::record_after_of))]
 pub fn play_record(
     g: Geometry,
     d: Device,
@@ -22,7 +23,7 @@ pub fn play_record(
     sram: &[u32],
     r: Record,
 ) -> Answer
-    ensures { leaves result one.exit two.exit ≡ record_after_of g sram.now (lent d one.entry two.entry) r }
+    ensures { leaves result one.new two.new ≡ record_after_of g sram.now (state d one.old two.old) r }
 {
     if r.kind == 0 {
         return store(g, d, r.number, r.form, r.value);
