@@ -8,17 +8,17 @@ version := $(shell sed -n 's/^version = "\(.*\)"$$/\1/p' rust/Cargo.toml)
 name = yohrundel-$(version)
 folder = $(DESTDIR)$(PREFIX)
 
-# The archive is of three crates that are compiled one by one, so that the compiler makes one function of the whole lent turn.
+# The archive is of three static libraries that are compiled one by one, so that the compiler makes one function of the whole lent turn.
 crates = yohrundel yohrundel_lent yohrundel_row
-proved := $(shell find crates -name '*.rt' -o -name '*.antt') crates.txt
+proved := $(shell find crates -name out -prune -o \( -name '*.rt' -o -name '*.antt' \) -print) crates.txt
 
 .PHONY: archive install dist
 archive: $(archive)
 
 $(archive): $(proved)
-	for crate in $(crates); do rt staticlib $$crate || exit; done
+	for crate in $(crates); do (cd crates/$$crate && rt lib) || exit; done
 	rm -rf $@ target/objects && mkdir -p target/objects
-	cd target/objects && for crate in $(crates); do ar x ../staticlib/lib$$crate.a || exit; done
+	cd target/objects && for crate in $(crates); do ar x ../../crates/$$crate/out/lib$$crate.a || exit; done
 	ar rcs $@ target/objects/*.o
 
 $(command): $(archive) $(shell find rust/src rust/build.rs rust/Cargo.toml -type f) $(wildcard .git/logs/HEAD)

@@ -1,12 +1,13 @@
 // The answers to the lines that are held.
-ghost use Rattle.std.specs.Prelude.{◌≤◌, ◌<◌, length};
-ghost use Rattle.io.specs.Counts.{IsPrefixLen};
+ghost use Rattle.std.specs.Prelude.{◌≤◌, ◌<◌, length, IfOk};
 ghost use Rattle.conformance_io.specs.Output.{Used};
 
 use conformance_calls::calls::put_call;
 use conformance_calls::names::Call;
 use conformance_io::output::flush;
 use conformance_lists::bytes::find;
+use std::io;
+use std::io::Stdout;
 
 // The longest list that can be lent, in words: a page more than the largest bank.
 const LONGEST_LIST: usize = 548864;
@@ -18,7 +19,7 @@ const OUTPUT: usize = 8192;
 
 // Where the inputs of a line end: before a bar, and before one blank at the end.
 fn inputs_end(line: &[u8]) -> usize
-    ensures { IsPrefixLen result line.now }
+    ensures { result ≤ length line.now }
 {
     let end = find(line, 0, b'|');
     if end == 0 {
@@ -32,33 +33,35 @@ fn inputs_end(line: &[u8]) -> usize
 
 // Writes what the line of a case gives.
 fn put_line(
+    to: Stdout,
     line: &[u8],
     out: &mut [u8],
     used: usize,
     one: &mut [u32],
     two: &mut [u32],
     spare: &mut [u32],
-) -> usize
+) -> io::Result<usize>
     requires { Used out.old used }
-    ensures { Used out.new result }
+    ensures { IfOk result (Used out.new) }
 {
     let end = inputs_end(line);
     let inputs = &line[..end];
     let after = find(inputs, 0, b' ');
     let call = Call::of(&inputs[..after]);
-    put_call(out, used, call, inputs, after, one, two, spare)
+    put_call(to, out, used, call, inputs, after, one, two, spare)
 }
 
 // Answers each line that has its line feed; gives where the first line without one starts.
 fn put_lines(
+    to: Stdout,
     held: &[u8],
     out: &mut [u8],
     one: &mut [u32],
     two: &mut [u32],
     spare: &mut [u32],
-) -> usize
+) -> io::Result<usize>
     requires { 0 < length out.old }
-    ensures { result ≤ length held.now }
+    ensures { IfOk result (λ start. start ≤ length held.now) }
 {
     let mut start = 0;
     let mut used = 0;
@@ -67,33 +70,34 @@ fn put_lines(
         if held.len() <= end {
             break;
         }
-        used = put_line(&held[start..end], out, used, one, two, spare);
+        used = put_line(to, &held[start..end], out, used, one, two, spare)?;
         start = end + 1;
     }
-    flush(out, used);
-    start
+    flush(to, out, used)?;
+    Ok(start)
 }
 
 // Lends the arrays as slices. Where they are made their lengths would have to be counted out element by element.
 fn put_lent(
+    to: Stdout,
     held: &[u8],
     out: &mut [u8; OUTPUT],
     one: &mut [u32; LONGEST_LIST],
     two: &mut [u32; LONGEST_LIST],
     spare: &mut [u32; SPARE],
-) -> usize
-    ensures { result ≤ length held.now }
+) -> io::Result<usize>
+    ensures { IfOk result (λ start. start ≤ length held.now) }
 {
-    put_lines(held, out, one, two, spare)
+    put_lines(to, held, out, one, two, spare)
 }
 
 // The same, with buffers of its own for the lists and the output.
-pub fn answer_lines(held: &[u8]) -> usize
-    ensures { result ≤ length held.now }
+pub fn answer_lines(to: Stdout, held: &[u8]) -> io::Result<usize>
+    ensures { IfOk result (λ start. start ≤ length held.now) }
 {
     let mut out = [0u8; OUTPUT];
     let mut one = [0u32; LONGEST_LIST];
     let mut two = [0u32; LONGEST_LIST];
     let mut spare = [0u32; SPARE];
-    put_lent(held, &mut out, &mut one, &mut two, &mut spare)
+    put_lent(to, held, &mut out, &mut one, &mut two, &mut spare)
 }

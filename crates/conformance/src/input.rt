@@ -1,8 +1,9 @@
 // The lines of the input.
-ghost use Rattle.std.specs.Prelude.{◌≤◌, length};
+ghost use Rattle.std.specs.Prelude.{◌≤◌, length, IfOk};
 
 use crate::answers::answer_lines;
 use conformance_io::input::{fill, keep, make_room};
+use std::io;
 
 // How many bytes are held after a turn, and whether the input ended there.
 #[derive(Clone, Copy)]
@@ -12,49 +13,50 @@ struct Progress {
 }
 
 // Reads once, and answers what is whole then.
-fn turn(buffer: &mut [u8], held: usize) -> Progress
+fn turn(rt: &HostRuntime, buffer: &mut [u8], held: usize) -> io::Result<Progress>
     requires { held ≤ length buffer.old }
-    ensures { result.held ≤ length buffer.new }
+    ensures { IfOk result (λ progress. progress.held ≤ length buffer.new) }
 {
-    let filled = fill(buffer, held);
+    let filled = fill(rt.stdin(), buffer, held)?;
     if filled <= held {
-        return Progress { is_end: true, held };
+        return Ok(Progress { is_end: true, held });
     }
-    let start = answer_lines(&buffer[..filled]);
+    let start = answer_lines(rt.stdout(), &buffer[..filled])?;
     let rest = keep(buffer, start, filled);
-    Progress {
+    Ok(Progress {
         is_end: false,
         held: make_room(buffer, rest),
-    }
+    })
 }
 
 // A proved loop has to end, and nothing says that the input does. So it counts its turns down, from a number that no
 // run uses up.
-fn answer_whole(buffer: &mut [u8]) -> usize
-    ensures { result ≤ length buffer.new }
+fn answer_whole(rt: &HostRuntime, buffer: &mut [u8]) -> io::Result<usize>
+    ensures { IfOk result (λ held. held ≤ length buffer.new) }
 {
     let mut held = 0;
     let mut turns = u64::MAX;
     while 0 < turns {
-        let progress = turn(buffer, held);
+        let progress = turn(rt, buffer, held)?;
         held = progress.held;
         if progress.is_end {
-            return held;
+            return Ok(held);
         }
         turns -= 1;
     }
-    held
+    Ok(held)
 }
 
 // Answers every line of the input; the last one may lack its line feed, and gets it in the buffer.
-pub fn answer_all(buffer: &mut [u8]) {
-    let held = answer_whole(buffer);
+pub fn answer_all(rt: &HostRuntime, buffer: &mut [u8]) -> io::Result<()> {
+    let held = answer_whole(rt, buffer)?;
     if held == 0 {
-        return;
+        return Ok(());
     }
     if held < buffer.len() {
         buffer[held] = b'\n';
         let end = held + 1;
-        answer_lines(&buffer[..end]);
+        answer_lines(rt.stdout(), &buffer[..end])?;
     }
+    Ok(())
 }

@@ -1,5 +1,5 @@
 // From a call's inputs to its answer.
-ghost use Rattle.std.specs.Prelude.{◌≤◌, ◌<◌, length};
+ghost use Rattle.std.specs.Prelude.{◌≤◌, ◌<◌, length, IfOk};
 ghost use Rattle.conformance_cases.specs.Cases.{Parted};
 ghost use Rattle.conformance_io.specs.Changes.{Lent};
 ghost use Rattle.conformance_io.specs.Output.{Used};
@@ -16,6 +16,8 @@ use conformance_cases::{Case, take_case};
 use conformance_io::answer::Answer;
 use conformance_io::changes::put_given;
 use conformance_io::output::{put_end, put_numbers};
+use std::io;
+use std::io::Stdout;
 
 // What a call that lends no list gives for its numbers.
 fn device_answer(call: Call, words: [u32; 26]) -> Answer
@@ -72,6 +74,7 @@ fn case_answer(call: Call, case: Case, one: &mut [u32], two: &mut [u32], spare: 
 
 // Puts what a call gives for its inputs.
 fn put_case(
+    to: Stdout,
     out: &mut [u8],
     used: usize,
     call: Call,
@@ -80,20 +83,21 @@ fn put_case(
     one: &mut [u32],
     two: &mut [u32],
     spare: &mut [u32],
-) -> usize
+) -> io::Result<usize>
     requires used { Used out.old used }
     requires lent { Lent one.old two.old spare.old case.end }
     requires parted { Parted spare.old case.middle case.end }
-    ensures { Used out.new result }
+    ensures { IfOk result (Used out.new) }
 {
     let lists = case.lists;
     let given = case_answer(call, case, one, two, spare);
-    put_given(out, used, given, line, lists, one, two, spare)
+    put_given(to, out, used, given, line, lists, one, two, spare)
 }
 
 // Puts what a call gives for the inputs from a position to the line's end, or a question mark where they are no case.
 // No call of the device: its callers show that the used bytes are within the buffer.
 pub fn put_call(
+    to: Stdout,
     out: &mut [u8],
     used: usize,
     call: Call,
@@ -102,18 +106,19 @@ pub fn put_call(
     one: &mut [u32],
     two: &mut [u32],
     spare: &mut [u32],
-) -> usize
+) -> io::Result<usize>
     requires { Used out.old used }
-    ensures { Used out.new result }
+    ensures { IfOk result (Used out.new) }
 {
     let case = take_case(line, at, call.shape(), one, two, spare);
     if !case.is_right {
-        let mark = put_numbers(out, used, Answer::no_case());
-        return put_end(out, mark);
+        let mark = put_numbers(to, out, used, Answer::no_case())?;
+        return put_end(to, out, mark);
     }
     let first = case.one;
     let second = case.two;
     put_case(
+        to,
         out,
         used,
         call,

@@ -6,6 +6,8 @@ use crate::updates::{Ended, restart, run_whole, turn_at};
 use device::builders::power_on;
 use device::record::Device;
 use geometry::banks::Geometry;
+use std::io;
+use std::io::Stdout;
 use update_start::start;
 
 // The masks for each kind of reset, and the cuts of a place.
@@ -24,28 +26,30 @@ fn bank_after(g: Geometry, ended: Ended, one: &mut [u32], two: &mut [u32]) -> u3
 
 // Starts the same update again, and runs it to its total.
 fn put_again(
+    to: Stdout,
     g: Geometry,
     d: Device,
     one: &mut [u32],
     two: &mut [u32],
     image: &[u32],
     sums: Sums,
-) -> Sums {
+) -> io::Result<Sums> {
     let started = start(g, d, one, two, image);
     let decline = started.decline;
-    put(decline.number() as u64);
+    put(to, decline.number() as u64)?;
     if !decline.is_accepted() {
-        put(0);
-        return sums;
+        put(to, 0)?;
+        return Ok(sums);
     }
     let ended = run_whole(g, d, one, two, image, started.total);
     let summed = sums.with_again(ended, one, two);
-    put(bank_after(g, ended, one, two) as u64);
-    summed
+    put(to, bank_after(g, ended, one, two) as u64)?;
+    Ok(summed)
 }
 
 // One cut by its number. The banks are copies.
 fn put_cut(
+    to: Stdout,
     sign: Sign,
     d: Device,
     one: &mut [u32],
@@ -53,22 +57,23 @@ fn put_cut(
     image: &[u32],
     number: u32,
     sums: Sums,
-) -> Sums {
+) -> io::Result<Sums> {
     let g = sign.geometry;
     let running = restart(g, d, one, two, number / MASKS, mask(number % MASKS));
     let device = running.device;
     let summed = sums.with_cut(device, one, two);
-    put(running.bank as u64);
+    put(to, running.bank as u64)?;
     if running.bank != sign.old {
-        put(0);
-        put(0);
-        return summed;
+        put(to, 0)?;
+        put(to, 0)?;
+        return Ok(summed);
     }
-    put_again(g, device, one, two, image, summed)
+    put_again(to, g, device, one, two, image, summed)
 }
 
 // Every cut of a state, and the sums.
 pub fn put_cuts(
+    to: Stdout,
     sign: Sign,
     d: Device,
     one: &[u32],
@@ -76,20 +81,21 @@ pub fn put_cuts(
     image: &[u32],
     first: &mut [u32],
     second: &mut [u32],
-) {
+) -> io::Result<()> {
     let mut sums = Sums::of(d, one, two);
     let mut number = 0;
     while number < CUTS {
         copy(one, first);
         copy(two, second);
-        sums = put_cut(sign, d, first, second, image, number, sums);
+        sums = put_cut(to, sign, d, first, second, image, number, sums)?;
         number += 1;
     }
-    put_sums(sums);
+    put_sums(to, sums)
 }
 
 // The rest of a line: the cuts of a state, and the turn of a place from it; gives the device after the turn.
 pub fn put_cuts_and_turn(
+    to: Stdout,
     sign: Sign,
     d: Device,
     one: &mut [u32],
@@ -98,19 +104,20 @@ pub fn put_cuts_and_turn(
     first: &mut [u32],
     second: &mut [u32],
     place: u32,
-) -> Device {
-    put_cuts(sign, d, one, two, image, first, second);
+) -> io::Result<Device> {
+    put_cuts(to, sign, d, one, two, image, first, second)?;
     let turned = turn_at(sign.geometry, d, one, two, image, place);
     let decline = turned.decline;
-    put(decline.number() as u64);
-    put_flag(turned.done);
-    put_flag(turned.event);
-    end_line();
-    turned.device
+    put(to, decline.number() as u64)?;
+    put_flag(to, turned.done)?;
+    put_flag(to, turned.event)?;
+    end_line(to)?;
+    Ok(turned.device)
 }
 
 // The line of a place; gives the device after its turn.
 fn put_place(
+    to: Stdout,
     sign: Sign,
     d: Device,
     one: &mut [u32],
@@ -119,13 +126,14 @@ fn put_place(
     first: &mut [u32],
     second: &mut [u32],
     place: u32,
-) -> Device {
-    put_first(place);
-    put_cuts_and_turn(sign, d, one, two, image, first, second, place)
+) -> io::Result<Device> {
+    put_first(to, place)?;
+    put_cuts_and_turn(to, sign, d, one, two, image, first, second, place)
 }
 
 // The lines of all places.
 fn put_places(
+    to: Stdout,
     sign: Sign,
     d: Device,
     one: &mut [u32],
@@ -134,37 +142,49 @@ fn put_places(
     first: &mut [u32],
     second: &mut [u32],
     total: u32,
-) {
+) -> io::Result<()> {
     let mut device = d;
     let mut place = 0;
     while place < total {
-        device = put_place(sign, device, one, two, image, first, second, place);
+        device = put_place(to, sign, device, one, two, image, first, second, place)?;
         place += 1;
     }
-    put_place(sign, device, one, two, image, first, second, total);
+    put_place(to, sign, device, one, two, image, first, second, total)?;
+    Ok(())
 }
 
 // The line of a sign, and those of its places; gives the total. The banks and the image are filled.
 pub fn put_sign(
+    to: Stdout,
     sign: Sign,
     one: &mut [u32],
     two: &mut [u32],
     image: &[u32],
     first: &mut [u32],
     second: &mut [u32],
-) -> u32 {
+) -> io::Result<u32> {
     let g = sign.geometry;
     let running = restart(g, power_on(), one, two, 0, mask(0));
     let device = running.device;
     let started = start(g, device, one, two, image);
     let decline = started.decline;
-    put_first(g.q);
-    put(g.b as u64);
-    put(g.p as u64);
-    put(running.bank as u64);
-    put(decline.number() as u64);
-    put(started.total as u64);
-    end_line();
-    put_places(sign, device, one, two, image, first, second, started.total);
-    started.total
+    put_first(to, g.q)?;
+    put(to, g.b as u64)?;
+    put(to, g.p as u64)?;
+    put(to, running.bank as u64)?;
+    put(to, decline.number() as u64)?;
+    put(to, started.total as u64)?;
+    end_line(to)?;
+    put_places(
+        to,
+        sign,
+        device,
+        one,
+        two,
+        image,
+        first,
+        second,
+        started.total,
+    )?;
+    Ok(started.total)
 }

@@ -13,6 +13,8 @@ use device::registers::Nvmcon;
 use geometry::banks::{Geometry, in_range};
 use map::window_start;
 use reads::FlashRead;
+use std::io;
+use std::io::Stdout;
 use words::word::has;
 
 // The fewest program words of a sign.
@@ -46,26 +48,27 @@ fn run_to(sign: Sign, one: &mut [u32], two: &mut [u32], image: &[u32], place: u3
 }
 
 // The first numbers of a list with the whole read.
-fn put_read_answer(place: u32, read: FlashRead) {
+fn put_read_answer(to: Stdout, place: u32, read: FlashRead) -> io::Result<()> {
     let decline = read.decline;
-    put_first(place);
-    put(0);
-    put(decline.number() as u64);
-    put(read.word as u64);
-    put_flag(read.event);
+    put_first(to, place)?;
+    put(to, 0)?;
+    put(to, decline.number() as u64)?;
+    put(to, read.word as u64)?;
+    put_flag(to, read.event)
 }
 
 // The first numbers of a list that ends after so many steps of the read.
-fn put_step_answer(place: u32, count: u32, stepped: Answer) {
+fn put_step_answer(to: Stdout, place: u32, count: u32, stepped: Answer) -> io::Result<()> {
     let decline = stepped.decline;
-    put_first(place);
-    put(count as u64);
-    put(decline.number() as u64);
-    put_flag(stepped.event);
+    put_first(to, place)?;
+    put(to, count as u64)?;
+    put(to, decline.number() as u64)?;
+    put_flag(to, stepped.event)
 }
 
 // A whole read from a state, and the turn of its place after it.
 fn put_read(
+    to: Stdout,
     sign: Sign,
     d: Device,
     one: &mut [u32],
@@ -74,16 +77,18 @@ fn put_read(
     first: &mut [u32],
     second: &mut [u32],
     place: u32,
-) {
+) -> io::Result<()> {
     let g = sign.geometry;
     let read = read_at(g, d, one, two, address_of(g, place));
-    put_read_answer(place, read);
+    put_read_answer(to, place, read)?;
     let device = read.device;
-    put_cuts_and_turn(sign, device, one, two, image, first, second, place);
+    put_cuts_and_turn(to, sign, device, one, two, image, first, second, place)?;
+    Ok(())
 }
 
 // The line of a place's list with the whole read.
 fn put_read_list(
+    to: Stdout,
     sign: Sign,
     one: &mut [u32],
     two: &mut [u32],
@@ -91,16 +96,17 @@ fn put_read_list(
     first: &mut [u32],
     second: &mut [u32],
     place: u32,
-)
+) -> io::Result<()>
     requires one_len_bound { (length one.old ≤ 192) × (length two.old ≤ 192) }
     requires sequence_in_bounds { (sign.sequence < length one.old) × (sign.sequence < length two.old) }
 {
     let device = run_to(sign, one, two, image, place);
-    put_read(sign, device, one, two, image, first, second, place);
+    put_read(to, sign, device, one, two, image, first, second, place)
 }
 
 // Single steps from a state, each but the last with the line of the list that ends after it.
 fn put_inside(
+    to: Stdout,
     sign: Sign,
     d: Device,
     one: &mut [u32],
@@ -109,24 +115,26 @@ fn put_inside(
     first: &mut [u32],
     second: &mut [u32],
     place: u32,
-) {
+) -> io::Result<()> {
     let mut device = d;
     let mut count = 1;
     while count < MOST_STEPS {
         let stepped = step_at(sign.geometry, device, one, two);
         device = stepped.device;
         if !has(device.nvmcon.0, Nvmcon::WR) {
-            return;
+            return Ok(());
         }
-        put_step_answer(place, count, stepped);
-        put_cuts(sign, device, one, two, image, first, second);
-        end_line();
+        put_step_answer(to, place, count, stepped)?;
+        put_cuts(to, sign, device, one, two, image, first, second)?;
+        end_line(to)?;
         count += 1;
     }
+    Ok(())
 }
 
 // The lines of a place's lists that end inside the read.
 fn put_inside_lists(
+    to: Stdout,
     sign: Sign,
     one: &mut [u32],
     two: &mut [u32],
@@ -134,16 +142,17 @@ fn put_inside_lists(
     first: &mut [u32],
     second: &mut [u32],
     place: u32,
-)
+) -> io::Result<()>
     requires one_len_bound { (length one.old ≤ 192) × (length two.old ≤ 192) }
     requires sequence_in_bounds { (sign.sequence < length one.old) × (sign.sequence < length two.old) }
 {
     let device = run_to(sign, one, two, image, place);
-    put_inside(sign, device, one, two, image, first, second, place);
+    put_inside(to, sign, device, one, two, image, first, second, place)
 }
 
 // The lines of a place.
 fn put_list(
+    to: Stdout,
     sign: Sign,
     one: &mut [u32],
     two: &mut [u32],
@@ -151,16 +160,17 @@ fn put_list(
     first: &mut [u32],
     second: &mut [u32],
     place: u32,
-)
+) -> io::Result<()>
     requires one_len_bound { (length one.old ≤ 192) × (length two.old ≤ 192) }
     requires sequence_in_bounds { (sign.sequence < length one.old) × (sign.sequence < length two.old) }
 {
-    put_read_list(sign, one, two, image, first, second, place);
-    put_inside_lists(sign, one, two, image, first, second, place);
+    put_read_list(to, sign, one, two, image, first, second, place)?;
+    put_inside_lists(to, sign, one, two, image, first, second, place)
 }
 
 // The lines of all places. The image is filled.
 pub fn put_lists(
+    to: Stdout,
     sign: Sign,
     one: &mut [u32],
     two: &mut [u32],
@@ -168,14 +178,14 @@ pub fn put_lists(
     first: &mut [u32],
     second: &mut [u32],
     total: u32,
-)
+) -> io::Result<()>
     requires one_len_bound { (length one.old ≤ 192) × (length two.old ≤ 192) }
     requires sequence_in_bounds { (sign.sequence < length one.old) × (sign.sequence < length two.old) }
 {
     let mut place = 0;
     while place < total {
-        put_list(sign, one, two, image, first, second, place);
+        put_list(to, sign, one, two, image, first, second, place)?;
         place += 1;
     }
-    put_list(sign, one, two, image, first, second, total);
+    put_list(to, sign, one, two, image, first, second, total)
 }

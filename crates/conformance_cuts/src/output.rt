@@ -1,35 +1,32 @@
 // Numbers on standard output.
 use crate::sums::Sums;
-use libc::STDOUT_FILENO;
+use std::io;
+use std::io::Stdout;
 
 // The first number of a line.
-pub fn put_first(number: u32) {
-    io::print_decimal(STDOUT_FILENO, number as u64);
+pub fn put_first(to: Stdout, number: u32) -> io::Result<()> {
+    to.print(number)
 }
 
 // A later number.
-pub fn put(number: u64) {
-    io::write_all(STDOUT_FILENO, b" ");
-    io::print_decimal(STDOUT_FILENO, number);
+pub fn put(to: Stdout, number: u64) -> io::Result<()> {
+    to.write_all(b" ")?;
+    to.print(number)
 }
 
-pub fn put_flag(flag: bool) {
-    if flag {
-        put(1);
-    } else {
-        put(0);
-    }
+pub fn put_flag(to: Stdout, flag: bool) -> io::Result<()> {
+    if flag { put(to, 1) } else { put(to, 0) }
 }
 
-pub fn put_sums(sums: Sums) {
-    put(sums.state);
-    put(sums.devices);
-    put(sums.cut_one);
-    put(sums.cut_two);
-    put(sums.again_one);
-    put(sums.again_two);
+pub fn put_sums(to: Stdout, sums: Sums) -> io::Result<()> {
+    put(to, sums.state)?;
+    put(to, sums.devices)?;
+    put(to, sums.cut_one)?;
+    put(to, sums.cut_two)?;
+    put(to, sums.again_one)?;
+    put(to, sums.again_two)
 }
 
-pub fn end_line() {
-    io::write_all(STDOUT_FILENO, b"\n");
+pub fn end_line(to: Stdout) -> io::Result<()> {
+    to.write_all(b"\n")
 }

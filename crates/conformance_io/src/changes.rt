@@ -1,7 +1,7 @@
 // What a call changed in the banks. A flash read that waits may change a whole region, so changes are not held anywhere:
 // they are counted, and then each is put.
 // What asks for room is no call of the device: its callers show it.
-ghost use Rattle.std.specs.Prelude.{◌≤◌, length};
+ghost use Rattle.std.specs.Prelude.{◌≤◌, length, IfOk};
 ghost use Rattle.conformance_io.specs.Changes.{Room};
 ghost use Rattle.conformance_io.specs.Output.{Used};
 
@@ -9,6 +9,8 @@ use crate::answer::Answer;
 use crate::differences::next_difference;
 use crate::output::{put_end, put_next, put_numbers, wide};
 use conformance_lists::lists::take_list;
+use std::io;
+use std::io::Stdout;
 
 // How many words of a bank differ from those before.
 fn count_changes(words: &[u32], before: &[u32]) -> usize
@@ -25,20 +27,27 @@ fn count_changes(words: &[u32], before: &[u32]) -> usize
 }
 
 // Each change of a bank: the number of the bank, the index and the word.
-fn put_bank(out: &mut [u8], used: usize, bank: u64, words: &[u32], before: &[u32]) -> usize
+fn put_bank(
+    to: Stdout,
+    out: &mut [u8],
+    used: usize,
+    bank: u64,
+    words: &[u32],
+    before: &[u32],
+) -> io::Result<usize>
     requires used { Used out.old used }
     requires room { Room words.now before.now }
-    ensures { Used out.new result }
+    ensures { IfOk result (Used out.new) }
 {
     let mut end = used;
     let mut at = next_difference(words, before, 0);
     while at < words.len() {
-        end = put_next(out, end, bank);
-        end = put_next(out, end, at as u64);
-        end = put_next(out, end, wide(words[at]));
+        end = put_next(to, out, end, bank)?;
+        end = put_next(to, out, end, at as u64)?;
+        end = put_next(to, out, end, wide(words[at]))?;
         at = next_difference(words, before, at + 1);
     }
-    end
+    Ok(end)
 }
 
 // How many words changed in both banks. Their lists are read again, and show each bank as it was before the call.
@@ -54,6 +63,7 @@ fn count_all(line: &[u8], at: usize, one: &[u32], two: &[u32], spare: &mut [u32]
 
 // How many words changed in both banks, and each change. The banks' lists are read again in the same way.
 fn put_changes(
+    to: Stdout,
     out: &mut [u8],
     used: usize,
     line: &[u8],
@@ -61,23 +71,24 @@ fn put_changes(
     one: &[u32],
     two: &[u32],
     spare: &mut [u32],
-) -> usize
+) -> io::Result<usize>
     requires used { Used out.old used }
     requires room { Room one.now spare.old }
     requires room_2 { Room two.now spare.old }
-    ensures { Used out.new result }
+    ensures { IfOk result (Used out.new) }
 {
     let count = count_all(line, at, one, two, spare);
-    let counted = put_next(out, used, count as u64);
+    let counted = put_next(to, out, used, count as u64)?;
     let first = take_list(line, at, spare, spare.len());
-    let end = put_bank(out, counted, 1, one, spare);
+    let end = put_bank(to, out, counted, 1, one, spare)?;
     take_list(line, first.next, spare, spare.len());
-    put_bank(out, end, 2, two, spare)
+    put_bank(to, out, end, 2, two, spare)
 }
 
 // What a call gives, on a line of its own: its numbers, and where they are followed by it what changed in the banks since
 // a line's lists.
 pub fn put_given(
+    to: Stdout,
     out: &mut [u8],
     used: usize,
     answer: Answer,
@@ -86,18 +97,18 @@ pub fn put_given(
     one: &[u32],
     two: &[u32],
     spare: &mut [u32],
-) -> usize
+) -> io::Result<usize>
     requires used { Used out.old used }
     requires count_bound { answer.count ≤ 26 }
     requires room { Room one.now spare.old }
     requires room_2 { Room two.now spare.old }
-    ensures { Used out.new result }
+    ensures { IfOk result (Used out.new) }
 {
     let has_changes = answer.has_changes;
-    let numbers = put_numbers(out, used, answer);
+    let numbers = put_numbers(to, out, used, answer)?;
     if !has_changes {
-        return put_end(out, numbers);
+        return put_end(to, out, numbers);
     }
-    let changes = put_changes(out, numbers, line, at, one, two, spare);
-    put_end(out, changes)
+    let changes = put_changes(to, out, numbers, line, at, one, two, spare)?;
+    put_end(to, out, changes)
 }

@@ -1,16 +1,17 @@
 // Standard input, in a buffer whose first bytes are held.
 // What asks for bytes within the buffer is no call of the device: its callers show it.
-ghost use Rattle.std.specs.Prelude.{◌≤◌, length};
+ghost use Rattle.std.specs.Prelude.{◌≤◌, length, IfOk};
 
-use libc::STDIN_FILENO;
+use std::io;
+use std::io::{Read, Stdin};
 
 // Reads once after the held bytes; gives how many are held then, no more than before at the end of the input.
-pub fn fill(buffer: &mut [u8], held: usize) -> usize
+pub fn fill(mut from: Stdin, buffer: &mut [u8], held: usize) -> io::Result<usize>
     requires { held ≤ length buffer.old }
-    ensures { (held ≤ result) × (result ≤ length buffer.new) }
+    ensures { IfOk result (λ filled. (held ≤ filled) × (filled ≤ length buffer.new)) }
 {
-    let got = libc::read(STDIN_FILENO, &mut buffer[held..]);
-    held + io::count(got, &buffer[held..])
+    let got = from.read(&mut buffer[held..])?;
+    Ok(held + got)
 }
 
 // Moves the bytes from start to end to the front; gives how many there are.

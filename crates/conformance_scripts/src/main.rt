@@ -2,11 +2,12 @@
 // for it stands a line of one hyphen.
 #![tactic(auto)]
 
-ghost use Rattle.std.specs.Prelude.{◌+◌, ◌≤◌, ◌<◌, length};
+ghost use Rattle.std.specs.Prelude.{◌+◌, ◌≤◌, ◌<◌, length, IfOk};
 ghost use Rattle.script_program.specs.Program.{output_room};
 
-use libc::{STDIN_FILENO, STDOUT_FILENO};
 use script_program::{OUTPUT, print};
+use std::io;
+use std::io::{Read, Stdin, Stdout};
 
 const INPUT: usize = 1048576;
 
@@ -26,16 +27,16 @@ fn length_at(input: &[u8], at: usize) -> usize
 }
 
 // Plays one script; the buffer has room for every output.
-fn play_one(script: &[u8], out: &mut [u8])
+fn play_one(to: Stdout, script: &[u8], out: &mut [u8]) -> io::Result<()>
     requires { output_room ≤ length out.old }
 {
     let bytes = print(script, out);
-    io::write_all(STDOUT_FILENO, &out[..bytes]);
-    io::write_all(STDOUT_FILENO, b"-\n");
+    to.write_all(&out[..bytes])?;
+    to.write_all(b"-\n")
 }
 
 // Plays every script that is there whole.
-fn play_all(input: &[u8], out: &mut [u8])
+fn play_all(to: Stdout, input: &[u8], out: &mut [u8]) -> io::Result<()>
     requires { output_room ≤ length out.old }
 {
     let mut at = 0;
@@ -43,28 +44,44 @@ fn play_all(input: &[u8], out: &mut [u8])
         let start = at + 4;
         let count = length_at(input, at);
         if input.len() - start < count {
-            return;
+            return Ok(());
         }
         let end = start + count;
-        play_one(&input[start..end], out);
+        play_one(to, &input[start..end], out)?;
         at = end;
     }
+    Ok(())
 }
 
-fn play_input(input: &mut [u8], out: &mut [u8])
+// Reads until the buffer is full or the input ends; gives how many bytes are read.
+fn read_full(mut from: Stdin, input: &mut [u8]) -> io::Result<usize>
+    ensures { IfOk result (λ count. count ≤ length input.new) }
+{
+    let mut count = 0;
+    while count < input.len() {
+        let got = from.read(&mut input[count..])?;
+        if got == 0 {
+            break;
+        }
+        count += got;
+    }
+    Ok(count)
+}
+
+fn play_input(rt: &HostRuntime, input: &mut [u8], out: &mut [u8]) -> io::Result<()>
     requires { output_room ≤ length out.old }
 {
-    let count = io::read_full(STDIN_FILENO, input);
-    play_all(&input[..count], out);
+    let count = read_full(rt.stdin(), input)?;
+    play_all(rt.stdout(), &input[..count], out)
 }
 
 // Lends the arrays as slices. In main itself their lengths would have to be counted out element by element.
-fn run(input: &mut [u8; INPUT], out: &mut [u8; OUTPUT]) {
-    play_input(input, out);
+fn run(rt: &HostRuntime, input: &mut [u8; INPUT], out: &mut [u8; OUTPUT]) -> io::Result<()> {
+    play_input(rt, input, out)
 }
 
-fn main() {
+fn main(rt: HostRuntime) -> io::Result<()> {
     let mut input = [0u8; INPUT];
     let mut out = [0u8; OUTPUT];
-    run(&mut input, &mut out);
+    run(&rt, &mut input, &mut out)
 }

@@ -4,44 +4,60 @@
 ghost use Rattle.std.specs.Prelude.{◌≤◌, length};
 ghost use Rattle.script_program.specs.Program.{output_room};
 
-use libc::{STDERR_FILENO, STDIN_FILENO, STDOUT_FILENO};
 use script_program::{LONGEST, OUTPUT, print};
+use std::io;
+use std::io::{Read, Stdin};
 
 // One byte more than the longest script: where all are read, the script is too long.
 const INPUT: usize = LONGEST + 1;
 
+// Reads until the buffer is full, the input ends or a read fails; gives how many bytes are read.
+fn read_full(mut from: Stdin, input: &mut [u8]) -> usize
+    ensures { result ≤ length input.new }
+{
+    let mut count = 0;
+    while count < input.len() {
+        let got = from.read(&mut input[count..]).unwrap_or(0);
+        if got == 0 {
+            break;
+        }
+        count += got;
+    }
+    count
+}
+
 // Whether the input ends after the bytes that were read. A read that failed is no end.
-fn is_end(input: &mut [u8], count: usize) -> bool
+fn is_end(mut from: Stdin, input: &mut [u8], count: usize) -> bool
     requires { count ≤ length input.old }
 {
     if input.len() <= count {
         return true;
     }
-    libc::read(STDIN_FILENO, &mut input[count..]) == 0
+    matches!(from.read(&mut input[count..]), Ok(0))
 }
 
 // Reads a script and writes what is printed for it; the buffer has room for every output.
-fn play_input(input: &mut [u8], out: &mut [u8])
+fn play_input(rt: &HostRuntime, input: &mut [u8], out: &mut [u8]) -> io::Result<()>
     requires { output_room ≤ length out.old }
 {
-    let count = io::read_full(STDIN_FILENO, input);
-    if !is_end(input, count) {
-        io::write_all(STDERR_FILENO, b"play: standard input cannot be read\n");
-        return;
+    let count = read_full(rt.stdin(), input);
+    if !is_end(rt.stdin(), input, count) {
+        return eprintln!(rt; "play: standard input cannot be read");
     }
     let bytes = print(&input[..count], out);
-    if !io::write_all(STDOUT_FILENO, &out[..bytes]) {
-        io::write_all(STDERR_FILENO, b"play: standard output cannot be written\n");
+    if rt.write_all(&out[..bytes]).is_err() {
+        return eprintln!(rt; "play: standard output cannot be written");
     }
+    Ok(())
 }
 
 // Lends the arrays as slices. In main itself their lengths would have to be counted out element by element.
-fn run(input: &mut [u8; INPUT], out: &mut [u8; OUTPUT]) {
-    play_input(input, out);
+fn run(rt: &HostRuntime, input: &mut [u8; INPUT], out: &mut [u8; OUTPUT]) -> io::Result<()> {
+    play_input(rt, input, out)
 }
 
-fn main() {
+fn main(rt: HostRuntime) -> io::Result<()> {
     let mut input = [0u8; INPUT];
     let mut out = [0u8; OUTPUT];
-    run(&mut input, &mut out);
+    run(&rt, &mut input, &mut out)
 }

@@ -1,0 +1,10 @@
+-- No more of the buffer is used than there is. The measure is the numbers that are left.
+use Rattle.std.proofs.Common.{◌-◌}
+use Rattle.conformance_io.specs.Output.{Used}
+use Rattle.conformance_io.proofs.output.put_rest.Given as goal
+
+abbrev pub invariant-loop-i : goal.invariant-loop-i
+invariant-loop-i l = record { used : Used l.out l.at }
+
+abbrev pub decreases-loop-i : goal.decreases-loop-i
+decreases-loop-i l = l.answer.count - l.i
