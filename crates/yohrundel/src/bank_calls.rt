@@ -75,11 +75,7 @@ pub extern "C" fn yohrundel_lower_bank_2(
 }
 
 // A page of a lent bank by where it starts there and how long it is.
-#[tactic(
-    auto,
-    using(bank_parts::proofs::AcceptedLaws::page_lies),
-    unfolding(bank_parts::specs::Parts::page_part_of, crate::specs::Answers::page_answer_of)
-)]
+#[tactic(auto, using(bank_parts::proofs::AcceptedLaws::page_lies), unfolding(bank_parts::specs::Parts::page_part_of, crate::specs::Answers::page_answer_of))]
 #[unsafe(no_mangle)]
 pub extern "C" fn yohrundel_page(g: Geometry, bank: &[u32], page: u32) -> PageAnswer
     ensures value { result ≡ page_answer_of g (length bank.now) page }
