@@ -1,0 +1,6 @@
+-- The measure is the places that are left.
+use Rattle.std.proofs.Common.{◌-◌}
+use Rattle.conformance_cuts.proofs.cuts.put_places.Given as goal
+
+abbrev pub decreases-loop-place : goal.decreases-loop-place
+decreases-loop-place l = l.total - l.place

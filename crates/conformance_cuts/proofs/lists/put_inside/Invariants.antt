@@ -1,0 +1,6 @@
+-- The measure is the steps that are left of the most.
+use Rattle.std.proofs.Common.{◌-◌}
+use Rattle.conformance_cuts.proofs.lists.put_inside.Given as goal
+
+abbrev pub decreases-loop-count : goal.decreases-loop-count
+decreases-loop-count l = 192 - l.count

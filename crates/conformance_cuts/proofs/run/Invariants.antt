@@ -1,0 +1,6 @@
+-- The measure is the signs that are left.
+use Rattle.std.proofs.Common.{◌-◌}
+use Rattle.conformance_cuts.proofs.run.Given as goal
+
+abbrev pub decreases-loop-number : goal.decreases-loop-number
+decreases-loop-number l = 4 - l.number

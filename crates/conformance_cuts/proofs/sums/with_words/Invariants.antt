@@ -1,0 +1,6 @@
+-- The measure is the words that are left.
+use Rattle.std.proofs.Common.{length, ◌-◌}
+use Rattle.conformance_cuts.proofs.sums.with_words.Given as goal
+
+abbrev pub decreases-loop-i : goal.decreases-loop-i
+decreases-loop-i l = length l.words - l.i

@@ -1,0 +1,6 @@
+-- The measure is the turns that are left.
+use Rattle.std.proofs.Common.{◌-◌}
+use Rattle.conformance_cuts.proofs.updates.run_turns.Given as goal
+
+abbrev pub decreases-loop-turns : goal.decreases-loop-turns
+decreases-loop-turns l = l.count - l.turns
