@@ -31,7 +31,7 @@ use Rattle.update.specs.declared.actions.Action.{Action}
 use Rattle.update.specs.declared.actions.Action.TheVariants.{Store, Step}
 use Rattle.update.specs.Actions.{total_of}
 use Rattle.update.specs.Turn.{next_action_of, action_decline_of, perform_of}
-use Rattle.update.specs.PowerFail.{Position, at, turned_of, Update}
+use Rattle.update.specs.PowerFail.{Position, turned_of, Update}
 use Rattle.update.proofs.FormLaws.{actions_formed}
 use Rattle.update.proofs.Blocks.{old_word}
 use Rattle.update.proofs.PhaseLaws.{action_at}

@@ -87,7 +87,8 @@ playing_next g sram start script before s out bytes i p small r er a ea out' eo 
     let lines = lines_of g sram start script i in
     let line = record_line_of i a in
     let n : 0 + length lines ≡ lines_length_of i = omega (arith, lines-length g sram start script i) in
-    let joined : sets out (lines_length_of i) line ≡ sets before 0 (lines ++ line) = rw p.written (sym (sets_after before 0 (lines_length_of i) lines line n)) in
+    let joined : sets out (lines_length_of i) line ≡ sets before 0 (lines ++ line) =
+    rw p.written (sym (sets_after before 0 (lines_length_of i) lines line n)) in
     record {
       reached = ap (λ (b : After). b.state) e;
       written =

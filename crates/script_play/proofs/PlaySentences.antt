@@ -47,7 +47,8 @@ module _ (g : Geometry) (sram : List ℕ) (s : State) (script : List ℕ) where
       (more i t (lines_of g sram s script i) (record_line_of i (next i t)) (plays i) (record_line i (next i t)))
 
   -- a record after those that are played as they should be
-  one_more : (i : ℕ) (t : State) (output line : List ℕ) → t ≡ state_of g sram s script i → output ≡ lines_of g sram s script i → line ≡ record_line_of i (next i t)
+  one_more : (i : ℕ) (t : State) (output line : List ℕ) → t ≡ state_of g sram s script i → output ≡ lines_of g sram s script i
+      → line ≡ record_line_of i (next i t)
       → ((next i t).state ≡ state_of g sram s script (1 + i)) × (output ++ line ≡ lines_of g sram s script (1 + i))
   one_more i t output line reached printed e =
       rw (one-add i)

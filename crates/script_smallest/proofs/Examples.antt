@@ -73,18 +73,19 @@ example number d kind register form possible script a b c answers =
 
 -- NVMKEY with form 1
 pub four : Example 4
-unfolding possible_of implemented_of register_of launched_fits_of resting_of nothing_launched_of is_script_of is_record_of record_of is_store_of record_after_of store_of
-    store_decline_of common_decline_of lent_decline_up_to in_range_up_to listed_of lengths_fit_of has_form_of
+unfolding possible_of implemented_of register_of launched_fits_of resting_of nothing_launched_of is_script_of is_record_of record_of is_store_of
+    record_after_of store_of store_decline_of common_decline_of lent_decline_up_to in_range_up_to listed_of lengths_fit_of has_form_of
 four = example 4 power_on 0 1 1 refl refl (omega arith) (omega arith) (omega arith) refl
 
 -- NVMCON while the upper region is erased
 pub five : Example 5
-unfolding possible_of implemented_of register_of launched_fits_of running_of begins_at_of region_begins_of any_protected_of program_protected_of length_of is_script_of
-    is_record_of record_of is_store_of record_after_of store_of store_decline_of common_decline_of lent_decline_up_to in_range_up_to listed_of lengths_fit_of has_form_of may_store_of
+unfolding possible_of implemented_of register_of launched_fits_of running_of begins_at_of region_begins_of any_protected_of program_protected_of
+    length_of is_script_of is_record_of record_of is_store_of record_after_of store_of store_decline_of common_decline_of lent_decline_up_to
+    in_range_up_to listed_of lengths_fit_of has_form_of may_store_of
 five = example 5 (with_con power_on 0xE006 0 0) 0 0 0 refl refl (omega arith) (omega arith) (omega arith) refl
 
 -- a step at rest
 pub six : Example 6
-unfolding possible_of implemented_of register_of launched_fits_of resting_of nothing_launched_of is_script_of is_record_of record_of value_of is_step_of record_after_of step_of
-    step_decline_of common_decline_of lent_decline_up_to in_range_up_to listed_of lengths_fit_of
+unfolding possible_of implemented_of register_of launched_fits_of resting_of nothing_launched_of is_script_of is_record_of record_of value_of is_step_of
+    record_after_of step_of step_decline_of common_decline_of lent_decline_up_to in_range_up_to listed_of lengths_fit_of
 six = example 6 power_on 1 0 0 refl refl (omega arith) (omega arith) (omega arith) refl

@@ -45,7 +45,8 @@ module _ (g : Geometry) (sram : List ℕ) where
       -- a record before i
       pub before : (k : ℕ) → k < i → answer_of g sram s (without_of x i) k ≡ answer_of g sram s x k
       before k h =
-          same_answer (without_of x i) x k k (same_state (without_of x i) x k (λ j m. (without x i l).below j (omega (arith, m, h)))) ((without x i l).below k h)
+          same_answer (without_of x i) x k k (same_state (without_of x i) x k (λ j m. (without x i l).below j (omega (arith, m, h))))
+          ((without x i l).below k h)
 
       module _ (off : accepted_of (record_after_of g sram (state_of g sram s x i) (record_of x i)).decline ≡ false) where
         -- where record i is refused, the state after m records of the rest, m at least i, is that after m + 1 of the whole

@@ -4,7 +4,7 @@
 
 ghost use Rattle.std.specs.Prelude.{◌≡◌, ◌++◌, ◌*◌, ◌+◌, ◌%◌, ◌≤◌, ◌<◌, length, get_or, take, replicate};
 ghost use Rattle.script_format.specs.Records.{record_of, records_of};
-ghost use Rattle.device.specs.State.{lent};
+ghost use Rattle.device.specs.State.{lent, state};
 ghost use Rattle.script_smallest.specs.Smallest.{gives_of, shows_of, without_of, smallest_script_of, unplayed_decline_of, with_zeros};
 ghost use Rattle.script_smallest.specs.Smallest.{answer, searched_of, smallest_of};
 
@@ -78,7 +78,7 @@ fn gives_without(
 ) -> bool
     requires removed_in_bounds { 8 * removed ≤ length script.now }
     requires count_in_bounds { 8 * count ≤ length (without_of script.now removed) }
-    ensures { result ≡ gives_of g sram.now (lent d one.entry two.entry) number
+    ensures { result ≡ gives_of g sram.now (state d one.old two.old) number
         (take (8 * count) (without_of script.now removed)) }
 {
     let mut device = d;
@@ -104,6 +104,7 @@ fn gives_without(
 }
 
 // The same on scratch banks, set from the originals. 0 counts as never given.
+#[tactic(auto, unfolding(crate::specs::Smallest::shows_of), using(crate::proofs::TrialLaws::shows_on))]
 fn shows_without(
     g: Geometry,
     d: Device,
@@ -204,6 +205,7 @@ fn drop_records(
 }
 
 // Which of declines 1, 2, 3, 14 and 20 applies.
+#[tactic(auto, unfolding(crate::specs::Smallest::unplayed_decline_of))]
 fn unplayed_decline(
     g: Geometry,
     d: Device,
@@ -276,6 +278,7 @@ fn search(
 }
 
 // Finds the smallest script that shows a decline's number, with two scratch banks to play on.
+#[tactic(auto, unfolding(crate::specs::Smallest::smallest_of))]
 pub fn smallest(
     g: Geometry,
     d: Device,

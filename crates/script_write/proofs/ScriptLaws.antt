@@ -30,7 +30,8 @@ records_append [] m = refl
 records_append (a ∷ l) m = rw (records_append l m, append_assoc (bytes_of (recorded a)) (record_bytes_of l) (record_bytes_of m))
 
 -- byte k of record i
-pub record_byte : (l : List Action) (i k : ℕ) → i < length l → k < 8 → get_or (record_bytes_of l) (8 * i + k) 0 ≡ get_or (bytes_of (recorded (get_or l i Step))) k 0
+pub record_byte : (l : List Action) (i k : ℕ) → i < length l → k < 8
+    → get_or (record_bytes_of l) (8 * i + k) 0 ≡ get_or (bytes_of (recorded (get_or l i Step))) k 0
 record_byte [] i k m n = absurd (omega arith)
 record_byte (a ∷ l) zero k m n =
     let first : 8 * 0 + k ≡ k = omega arith in

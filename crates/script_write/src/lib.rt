@@ -67,6 +67,7 @@ fn put_actions(out: &mut [u8], g: Geometry, image: &[u32], w: u32)
 }
 
 // Start's declines, and then 17, by the length of the buffer.
+#[tactic(auto, unfolding(crate::specs::Script::write_script_decline_of))]
 fn write_script_decline(
     g: Geometry,
     d: Device,
@@ -89,6 +90,7 @@ fn write_script_decline(
 }
 
 // Writes every action of an update that may start as a record; the bytes after the last record stay.
+#[tactic(auto, unfolding(crate::specs::Script::write_script_of))]
 pub fn write_script(
     g: Geometry,
     d: Device,

@@ -8,10 +8,9 @@ use Rattle.device.specs.declared.record.Device.{Device}
 use Rattle.device.specs.declared.answer.Answer.{Answer}
 use Rattle.register_access.specs.declared.RegisterRead.{RegisterRead}
 use Rattle.start_up.specs.declared.StartedUp.{StartedUp}
-use Rattle.std.specs.Borrow.{Bor}
 use Rattle.sequence.specs.declared.comparison.Comparison.{Comparison}
 use Rattle.sequence.specs.Comparison.{reason_number_of}
-use Rattle.device.specs.State.{After, lent}
+use Rattle.device.specs.State.{After, state}
 use Rattle.resets.specs.Reset.{Explained}
 use Rattle.reads.specs.Read.{Reading}
 use Rattle.bank_parts.specs.Parts.{lower_bank_decline_of, lower_of, lower_bank_of, page_decline_of}
@@ -99,19 +98,19 @@ page_answer_of g words page =
 
 -- ---- calls that lend banks or a buffer: the answer, and what the lent memory holds afterwards
 
-abbrev pub StepGives : After → EventAnswer → Bor (List ℕ) → Bor (List ℕ) → Type 0
+abbrev pub StepGives : After → EventAnswer → List ℕ → List ℕ → Type 0
 StepGives a r one two =
-    (r ≡ record { decline = number_of a.decline; event = a.event; device = a.state.device }) × (lent r.device one two ≡ a.state)
+    (r ≡ record { decline = number_of a.decline; event = a.event; device = a.state.device }) × (state r.device one two ≡ a.state)
 
-abbrev pub FlashReadGives : Reading → FlashReadAnswer → Bor (List ℕ) → Bor (List ℕ) → Type 0
+abbrev pub FlashReadGives : Reading → FlashReadAnswer → List ℕ → List ℕ → Type 0
 FlashReadGives a r one two =
     (r ≡ record { decline = number_of a.after.decline; word = a.word; event = a.after.event; device = a.after.state.device })
-    × (lent r.device one two ≡ a.after.state)
+    × (state r.device one two ≡ a.after.state)
 
-abbrev pub ResetGives : Explained → ResetAnswer → Bor (List ℕ) → Bor (List ℕ) → Type 0
+abbrev pub ResetGives : Explained → ResetAnswer → List ℕ → List ℕ → Type 0
 ResetGives e r one two =
     (r ≡ record { decline = number_of e.after.decline; reason = reason_number_of e.reason; device = e.after.state.device })
-    × (lent r.device one two ≡ e.after.state)
+    × (state r.device one two ≡ e.after.state)
 
 abbrev pub PlayGives : Playback → PlayAnswer → List ℕ → List ℕ → List ℕ → Type 0
 PlayGives a r one two buffer =

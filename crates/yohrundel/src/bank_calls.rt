@@ -1,6 +1,6 @@
 // The exported calls on a device and its banks.
 ghost use Rattle.std.specs.Prelude.{◌≡◌, length, take, drop};
-ghost use Rattle.device.specs.State.{lent};
+ghost use Rattle.device.specs.State.{state};
 ghost use Rattle.flash.specs.Step.{step_of};
 ghost use Rattle.resets.specs.Reset.{explained_of};
 ghost use Rattle.reads.specs.Read.{flash_read_of};
@@ -28,7 +28,7 @@ pub extern "C" fn yohrundel_flash_read_3(
     sram: &[u32],
     address: u32,
 ) -> FlashReadAnswer
-    ensures { FlashReadGives (flash_read_of g (lent d one.entry two.entry) sram.now address) result one.exit two.exit }
+    ensures { FlashReadGives (flash_read_of g (state d one.old two.old) sram.now address) result one.new two.new }
 {
     let a = flash_read(g, d, one, two, sram, address);
     let decline = a.decline;
@@ -42,6 +42,7 @@ pub extern "C" fn yohrundel_flash_read_3(
 }
 
 // The bank on the lower alias by its number: the lent bank itself.
+#[tactic(auto, unfolding(bank_parts::specs::Parts::lower_bank_of, crate::specs::Answers::lower_bank_answer_of))]
 #[unsafe(no_mangle)]
 pub extern "C" fn yohrundel_lower_bank_2(
     g: Geometry,
@@ -74,6 +75,7 @@ pub extern "C" fn yohrundel_lower_bank_2(
 }
 
 // A page of a lent bank by where it starts there and how long it is.
+#[tactic(auto, using(bank_parts::proofs::AcceptedLaws::page_lies), unfolding(bank_parts::specs::Parts::page_part_of, crate::specs::Answers::page_answer_of))]
 #[unsafe(no_mangle)]
 pub extern "C" fn yohrundel_page(g: Geometry, bank: &[u32], page: u32) -> PageAnswer
     ensures value { result ≡ page_answer_of g (length bank.now) page }
@@ -103,7 +105,7 @@ pub extern "C" fn yohrundel_step_2(
     two: &mut [u32],
     sram: &[u32],
 ) -> EventAnswer
-    ensures { StepGives (step_of g (lent d one.entry two.entry) sram.now) result one.exit two.exit }
+    ensures { StepGives (step_of g (state d one.old two.old) sram.now) result one.new two.new }
 {
     let a = step(g, d, one, two, sram);
     let decline = a.decline;
@@ -125,7 +127,7 @@ pub extern "C" fn yohrundel_reset_2(
     kind: u32,
     mask: Mask,
 ) -> ResetAnswer
-    ensures { ResetGives (explained_of g (lent d one.entry two.entry) sram.now kind mask.words) result one.exit two.exit }
+    ensures { ResetGives (explained_of g (state d one.old two.old) sram.now kind mask.words) result one.new two.new }
 {
     let words = mask.words;
     let a = reset(g, d, one, two, sram, kind, words);

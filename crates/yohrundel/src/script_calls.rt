@@ -1,6 +1,6 @@
 // The exported calls that play a script, that write an update's, and that find the smallest which shows a decline.
 ghost use Rattle.std.specs.Prelude.{◌≡◌};
-ghost use Rattle.device.specs.State.{lent};
+ghost use Rattle.device.specs.State.{lent, state};
 ghost use Rattle.script_play.specs.Play.{play_of, play_length_of};
 ghost use Rattle.script_write.specs.Script.{write_script_of};
 ghost use Rattle.script_smallest.specs.Smallest.{smallest_of};
@@ -23,7 +23,7 @@ pub extern "C" fn yohrundel_play_2(
     script: &[u8],
     out: &mut [u8],
 ) -> PlayAnswer
-    ensures { PlayGives (play_of g sram.now (lent d one.entry two.entry) script.now out.old) result
+    ensures { PlayGives (play_of g sram.now (state d one.old two.old) script.now out.old) result
         one.new two.new out.new }
 {
     let a = play(g, d, one, two, sram, script, out);

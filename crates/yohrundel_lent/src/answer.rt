@@ -1,5 +1,5 @@
 // A turn with its answer as numbers.
-ghost use Rattle.device.specs.State.{lent};
+ghost use Rattle.device.specs.State.{state};
 ghost use Rattle.update.specs.Turn.{turn_of};
 ghost use Rattle.yohrundel_lent.specs.Answer.{TurnGives};
 
@@ -34,8 +34,8 @@ pub fn turn_answer(
     sram: &[u32],
     place: u32,
 ) -> TurnAnswer
-    ensures { TurnGives (turn_of g (lent d one.entry two.entry) image.now sram.now place) result.outcome
-        (lent result.device one.exit two.exit) }
+    ensures { TurnGives (turn_of g (state d one.old two.old) image.now sram.now place) result.outcome
+        (state result.device one.new two.new) }
 {
     let a = turn(g, d, one, two, image, sram, place);
     let decline = a.decline;

@@ -1,5 +1,5 @@
 // The exported turn with the device record lent.
-ghost use Rattle.device.specs.State.{lent};
+ghost use Rattle.device.specs.State.{state};
 ghost use Rattle.update.specs.Turn.{turn_of};
 ghost use Rattle.yohrundel_lent.specs.Answer.{TurnGives};
 
@@ -18,8 +18,8 @@ pub extern "C" fn yohrundel_turn_lent_2(
     sram: &[u32],
     place: u32,
 ) -> TurnOutcome
-    ensures { TurnGives (turn_of g (lent d.old one.entry two.entry) image.now sram.now place) result
-        (lent d.new one.exit two.exit) }
+    ensures { TurnGives (turn_of g (state d.old one.old two.old) image.now sram.now place) result
+        (state d.new one.new two.new) }
 {
     let t = turn_answer(g, *d, one, two, image, sram, place);
     *d = t.device;

@@ -154,7 +154,8 @@ module _ (g : Geometry) (k : ℕ) (xs ys : List Sign) (n : ℕ) (queue : Queue) 
   unfolding schedule_row_of
   call_same = go (accepted_of (decline ys)) refl
     where
-      go : (t : Bool) → accepted_of (decline ys) ≡ t → schedule_row_of g k xs n queue last store image sram ≡ schedule_row_of g k ys n queue last store image sram
+      go : (t : Bool) → accepted_of (decline ys) ≡ t
+          → schedule_row_of g k xs n queue last store image sram ≡ schedule_row_of g k ys n queue last store image sram
       go true e =
           let j = stands g k ys n queue last (length store) (length image) (length sram) e in
           rw (decline_same, e)

@@ -1,4 +1,4 @@
-// The call with a lent list of records, for programs in other languages: walked.
+// The call with a lent list of records, for programs in other languages.
 #![tactic(auto)]
 
 ghost use Rattle.std.specs.Prelude.{◌≡◌};

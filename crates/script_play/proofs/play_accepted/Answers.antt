@@ -15,7 +15,8 @@ loop-i-preserved c =
       within = omega arith;
       playing =
           rw (add-one c.loop-i.i)
-          (playing_next _ _ _ _ _ _ _ _ _ c.loop-i.invariant.playing small _ c.record_at.ensures _ c.play_record-a.ensures _ text _ c.write_line-bytes.ensures.1);
+          (playing_next _ _ _ _ _ _ _ _ _ c.loop-i.invariant.playing small _ c.record_at.ensures _ c.play_record-a.ensures _ text _
+          c.write_line-bytes.ensures.1);
     }
 
 pub returns : goal.returns
