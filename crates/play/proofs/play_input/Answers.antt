@@ -1,13 +1,14 @@
 -- What is printed lies within the buffer, which has room for every output.
-use Rattle.std.proofs.Common.{sym, arith}
-use Rattle.std.proofs.Math.Seq.{length-take-le}
+use Rattle.std.proofs.Common.{sym, arith, ◌≤◌, length, length-take-le}
 use Rattle.script_program.proofs.ProgramLaws.{print_within}
 use Rattle.play.proofs.play_input.Goals as goal
 
 pub slice_bounds-write_all-end : goal.slice_bounds-write_all-end
 slice_bounds-write_all-end c =
-    let within = print_within _ _ _ c.print-bytes.ensures c.requires in omega (arith, within)
+    let within : c.print-bytes.result ≤ length c.args.out.now = print_within _ _ _ c.print-bytes.ensures c.requires in
+    omega arith
 
 pub slice_bounds-write_all-end-2 : goal.slice_bounds-write_all-end-2
 slice_bounds-write_all-end-2 c =
-    let within = print_within _ _ _ c.print-bytes.ensures c.requires in sym (length-take-le _ _ (omega (arith, within)))
+    let within : c.print-bytes.result ≤ length c.args.out.now = print_within _ _ _ c.print-bytes.ensures c.requires in
+    sym (length-take-le _ _ (omega arith))

@@ -1,9 +1,9 @@
--- The copy keeps its length. The measure is the words that are left.
-use Rattle.std.proofs.Common.{length, ◌-◌, ◌≤◌, ◌≡◌}
+-- The index lies within the copy. The measure is the words that are left.
+use Rattle.std.proofs.Common.{length, ◌-◌, ◌≤◌}
 use Rattle.conformance_cuts.proofs.signs.copy.Given as goal
 
 abbrev pub invariant-loop-i : goal.invariant-loop-i
-invariant-loop-i l = record { within : l.i ≤ length l.to; same : length l.to ≡ length l.fn.to }
+invariant-loop-i l = l.i ≤ length l.to
 
 abbrev pub decreases-loop-i : goal.decreases-loop-i
-decreases-loop-i l = length l.fn.to - l.i
+decreases-loop-i l = length l.initial.to - l.i
