@@ -1,4 +1,6 @@
 // The answers to the lines that are held.
+// An error is that of a write that failed, and no other: no later line is answered, and every list and buffer keeps its
+// length; nothing more is said of what they hold then.
 ghost use Rattle.std.specs.Prelude.{◌≤◌, ◌<◌, length, IfOk};
 ghost use Rattle.conformance_io.specs.Output.{Used};
 

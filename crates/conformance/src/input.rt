@@ -1,4 +1,6 @@
 // The lines of the input.
+// An error is that of a read or a write that failed, and no other: nothing is read or answered after it, and the buffer
+// keeps its length; nothing more is said of what it holds then.
 ghost use Rattle.std.specs.Prelude.{◌≤◌, length, IfOk};
 
 use crate::answers::answer_lines;

@@ -1,4 +1,6 @@
 // From a call's inputs to its answer.
+// An error is that of a write that failed, and no other: nothing is put after it, and every list and buffer keeps its
+// length; nothing more is said of what they hold then.
 ghost use Rattle.std.specs.Prelude.{◌≤◌, ◌<◌, length, IfOk};
 ghost use Rattle.conformance_cases.specs.Cases.{Parted};
 ghost use Rattle.conformance_io.specs.Changes.{Lent};

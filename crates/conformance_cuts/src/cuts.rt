@@ -1,4 +1,6 @@
 // The cuts of an update.
+// An error is that of a write that failed, and no other: nothing is cut or put after it, and the banks and their copies
+// keep their lengths; nothing more is said of what they hold then.
 use crate::output::{end_line, put, put_first, put_flag, put_sums};
 use crate::signs::{Sign, copy, mask};
 use crate::sums::Sums;

@@ -1,4 +1,6 @@
 // Lists with a flash read: turns up to a place, then a read of the bank that is worked on, which carries out what remains.
+// An error is that of a write that failed, and no other: no list comes after it, and the banks and their copies keep
+// their lengths; nothing more is said of what they hold then.
 // What asks for room is no call of the device: its callers show it.
 ghost use Rattle.std.specs.Prelude.{◌<◌, ◌≤◌, length};
 

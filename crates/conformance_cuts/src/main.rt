@@ -25,6 +25,8 @@
 // number of its steps but all:
 //
 //     place, steps, the last step's answer, its event, 18 cuts, 6 sums
+//
+// Where a write fails, the program ends with its error, and has no other: nothing is written after it.
 #![tactic(auto)]
 
 mod cuts;

@@ -1,4 +1,5 @@
 // Numbers on standard output.
+// An error is that of a write that failed, and no other: nothing is written after it.
 use crate::sums::Sums;
 use std::io;
 use std::io::Stdout;

@@ -1,5 +1,7 @@
 // Plays service scripts for the tests. Each stands after its length in four bytes, little-endian; after what is printed
 // for it stands a line of one hyphen.
+// Where a read or a write fails, the program ends with its error, and has no other: no script is played after it. The
+// buffers keep their lengths then, and nothing more is said of what they hold.
 #![tactic(auto)]
 
 ghost use Rattle.std.specs.Prelude.{◌+◌, ◌≤◌, ◌<◌, length, IfOk};

@@ -1,4 +1,6 @@
 // Plays the service script of standard input after power-on, and prints a line for each record.
+// A read or a write that fails is told on standard error. Where that cannot be written either, the program ends with
+// the error of that write, and has no other.
 #![tactic(auto)]
 
 ghost use Rattle.std.specs.Prelude.{◌≤◌, length};
