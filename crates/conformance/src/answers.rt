@@ -1,5 +1,5 @@
 // The answers to the lines that are held.
-ghost use Rattle.std.specs.Prelude.{◌≤◌, ◌<◌, length, IfOk};
+ghost use Rattle.std.specs.Prelude.{◌≤◌, ◌<◌, length, take, IfOk, ◌≡◌, OnErr};
 ghost use Rattle.conformance_io.specs.Output.{Used};
 
 use conformance_calls::calls::put_call;
@@ -19,7 +19,7 @@ const OUTPUT: usize = 8192;
 
 // Where the inputs of a line end: before a bar, and before one blank at the end.
 fn inputs_end(line: &[u8]) -> usize
-    ensures { result ≤ length line.now }
+    ensures { (result ≤ length line.now) × (result ≡ length (take result line.now)) }
 {
     let end = find(line, 0, b'|');
     if end == 0 {
@@ -42,7 +42,12 @@ fn put_line(
     spare: &mut [u32],
 ) -> io::Result<usize>
     requires { Used out.old used }
-    ensures { IfOk result (Used out.new) }
+    ensures ok { IfOk result (Used out.new) }
+    ensures err {
+        OnErr result
+        ((length out.new ≡ length out.old) × (length one.new ≡ length one.old)
+        × (length two.new ≡ length two.old) × (length spare.new ≡ length spare.old))
+    }
 {
     let end = inputs_end(line);
     let inputs = &line[..end];
@@ -61,7 +66,12 @@ fn put_lines(
     spare: &mut [u32],
 ) -> io::Result<usize>
     requires { 0 < length out.old }
-    ensures { IfOk result (λ start. start ≤ length held.now) }
+    ensures ok { IfOk result (λ start. start ≤ length held.now) }
+    ensures err {
+        OnErr result
+        ((length out.new ≡ length out.old) × (length one.new ≡ length one.old)
+        × (length two.new ≡ length two.old) × (length spare.new ≡ length spare.old))
+    }
 {
     let mut start = 0;
     let mut used = 0;
@@ -86,7 +96,12 @@ fn put_lent(
     two: &mut [u32; LONGEST_LIST],
     spare: &mut [u32; SPARE],
 ) -> io::Result<usize>
-    ensures { IfOk result (λ start. start ≤ length held.now) }
+    ensures ok { IfOk result (λ start. start ≤ length held.now) }
+    ensures err {
+        OnErr result
+        ((length out.new ≡ length out.old) × (length one.new ≡ length one.old)
+        × (length two.new ≡ length two.old) × (length spare.new ≡ length spare.old))
+    }
 {
     put_lines(to, held, out, one, two, spare)
 }

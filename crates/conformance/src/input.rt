@@ -1,5 +1,5 @@
 // The lines of the input.
-ghost use Rattle.std.specs.Prelude.{◌≤◌, length, IfOk};
+ghost use Rattle.std.specs.Prelude.{◌≤◌, length, IfOk, ◌≡◌, OnErr};
 
 use crate::answers::answer_lines;
 use conformance_io::input::{fill, keep, make_room};
@@ -15,7 +15,8 @@ struct Progress {
 // Reads once, and answers what is whole then.
 fn turn(rt: &HostRuntime, buffer: &mut [u8], held: usize) -> io::Result<Progress>
     requires { held ≤ length buffer.old }
-    ensures { IfOk result (λ progress. progress.held ≤ length buffer.new) }
+    ensures ok { IfOk result (λ progress. progress.held ≤ length buffer.new) }
+    ensures err { OnErr result (length buffer.new ≡ length buffer.old) }
 {
     let filled = fill(rt.stdin(), buffer, held)?;
     if filled <= held {
@@ -32,7 +33,8 @@ fn turn(rt: &HostRuntime, buffer: &mut [u8], held: usize) -> io::Result<Progress
 // A proved loop has to end, and nothing says that the input does. So it counts its turns down, from a number that no
 // run uses up.
 fn answer_whole(rt: &HostRuntime, buffer: &mut [u8]) -> io::Result<usize>
-    ensures { IfOk result (λ held. held ≤ length buffer.new) }
+    ensures ok { IfOk result (λ held. held ≤ length buffer.new) }
+    ensures err { OnErr result (length buffer.new ≡ length buffer.old) }
 {
     let mut held = 0;
     let mut turns = u64::MAX;

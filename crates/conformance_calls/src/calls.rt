@@ -1,5 +1,5 @@
 // From a call's inputs to its answer.
-ghost use Rattle.std.specs.Prelude.{◌≤◌, ◌<◌, length, IfOk};
+ghost use Rattle.std.specs.Prelude.{◌≤◌, ◌<◌, length, IfOk, ◌≡◌, OnErr};
 ghost use Rattle.conformance_cases.specs.Cases.{Parted};
 ghost use Rattle.conformance_io.specs.Changes.{Lent};
 ghost use Rattle.conformance_io.specs.Output.{Used};
@@ -87,7 +87,12 @@ fn put_case(
     requires used { Used out.old used }
     requires lent { Lent one.old two.old spare.old case.end }
     requires parted { Parted spare.old case.middle case.end }
-    ensures { IfOk result (Used out.new) }
+    ensures ok { IfOk result (Used out.new) }
+    ensures err {
+        OnErr result
+        ((length out.new ≡ length out.old) × (length one.new ≡ length one.old)
+        × (length two.new ≡ length two.old) × (length spare.new ≡ length spare.old))
+    }
 {
     let lists = case.lists;
     let given = case_answer(call, case, one, two, spare);
@@ -108,7 +113,12 @@ pub fn put_call(
     spare: &mut [u32],
 ) -> io::Result<usize>
     requires { Used out.old used }
-    ensures { IfOk result (Used out.new) }
+    ensures ok { IfOk result (Used out.new) }
+    ensures err {
+        OnErr result
+        ((length out.new ≡ length out.old) × (length one.new ≡ length one.old)
+        × (length two.new ≡ length two.old) × (length spare.new ≡ length spare.old))
+    }
 {
     let case = take_case(line, at, call.shape(), one, two, spare);
     if !case.is_right {
