@@ -43,11 +43,9 @@ fn put_line(
 ) -> io::Result<usize>
     requires { Used out.old used }
     ensures ok { IfOk result (Used out.new) }
-    ensures err {
-        OnErr result
+    ensures err { OnErr result
         ((length out.new ≡ length out.old) × (length one.new ≡ length one.old)
-        × (length two.new ≡ length two.old) × (length spare.new ≡ length spare.old))
-    }
+        × (length two.new ≡ length two.old) × (length spare.new ≡ length spare.old)) }
 {
     let end = inputs_end(line);
     let inputs = &line[..end];
@@ -67,11 +65,9 @@ fn put_lines(
 ) -> io::Result<usize>
     requires { 0 < length out.old }
     ensures ok { IfOk result (λ start. start ≤ length held.now) }
-    ensures err {
-        OnErr result
+    ensures err { OnErr result
         ((length out.new ≡ length out.old) × (length one.new ≡ length one.old)
-        × (length two.new ≡ length two.old) × (length spare.new ≡ length spare.old))
-    }
+        × (length two.new ≡ length two.old) × (length spare.new ≡ length spare.old)) }
 {
     let mut start = 0;
     let mut used = 0;
@@ -97,11 +93,9 @@ fn put_lent(
     spare: &mut [u32; SPARE],
 ) -> io::Result<usize>
     ensures ok { IfOk result (λ start. start ≤ length held.now) }
-    ensures err {
-        OnErr result
+    ensures err { OnErr result
         ((length out.new ≡ length out.old) × (length one.new ≡ length one.old)
-        × (length two.new ≡ length two.old) × (length spare.new ≡ length spare.old))
-    }
+        × (length two.new ≡ length two.old) × (length spare.new ≡ length spare.old)) }
 {
     put_lines(to, held, out, one, two, spare)
 }

@@ -88,11 +88,9 @@ fn put_case(
     requires lent { Lent one.old two.old spare.old case.end }
     requires parted { Parted spare.old case.middle case.end }
     ensures ok { IfOk result (Used out.new) }
-    ensures err {
-        OnErr result
+    ensures err { OnErr result
         ((length out.new ≡ length out.old) × (length one.new ≡ length one.old)
-        × (length two.new ≡ length two.old) × (length spare.new ≡ length spare.old))
-    }
+        × (length two.new ≡ length two.old) × (length spare.new ≡ length spare.old)) }
 {
     let lists = case.lists;
     let given = case_answer(call, case, one, two, spare);
@@ -114,11 +112,9 @@ pub fn put_call(
 ) -> io::Result<usize>
     requires { Used out.old used }
     ensures ok { IfOk result (Used out.new) }
-    ensures err {
-        OnErr result
+    ensures err { OnErr result
         ((length out.new ≡ length out.old) × (length one.new ≡ length one.old)
-        × (length two.new ≡ length two.old) × (length spare.new ≡ length spare.old))
-    }
+        × (length two.new ≡ length two.old) × (length spare.new ≡ length spare.old)) }
 {
     let case = take_case(line, at, call.shape(), one, two, spare);
     if !case.is_right {
