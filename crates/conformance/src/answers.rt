@@ -1,7 +1,7 @@
 // The answers to the lines that are held.
 // An error is that of a write that failed, and no other: no later line is answered, and every list and buffer keeps its
 // length; nothing more is said of what they hold then.
-ghost use Rattle.std.specs.Prelude.{◌≤◌, ◌<◌, length, IfOk};
+ghost use Rattle.std.specs.Prelude.{◌≤◌, ◌<◌, length, take, IfOk, ◌≡◌, OnErr};
 ghost use Rattle.conformance_io.specs.Output.{Used};
 
 use conformance_calls::calls::put_call;
@@ -21,7 +21,7 @@ const OUTPUT: usize = 8192;
 
 // Where the inputs of a line end: before a bar, and before one blank at the end.
 fn inputs_end(line: &[u8]) -> usize
-    ensures { result ≤ length line.now }
+    ensures { (result ≤ length line.now) × (result ≡ length (take result line.now)) }
 {
     let end = find(line, 0, b'|');
     if end == 0 {
@@ -44,7 +44,10 @@ fn put_line(
     spare: &mut [u32],
 ) -> io::Result<usize>
     requires { Used out.old used }
-    ensures { IfOk result (Used out.new) }
+    ensures ok { IfOk result (Used out.new) }
+    ensures err { OnErr result
+        ((length out.new ≡ length out.old) × (length one.new ≡ length one.old)
+        × (length two.new ≡ length two.old) × (length spare.new ≡ length spare.old)) }
 {
     let end = inputs_end(line);
     let inputs = &line[..end];
@@ -63,7 +66,10 @@ fn put_lines(
     spare: &mut [u32],
 ) -> io::Result<usize>
     requires { 0 < length out.old }
-    ensures { IfOk result (λ start. start ≤ length held.now) }
+    ensures ok { IfOk result (λ start. start ≤ length held.now) }
+    ensures err { OnErr result
+        ((length out.new ≡ length out.old) × (length one.new ≡ length one.old)
+        × (length two.new ≡ length two.old) × (length spare.new ≡ length spare.old)) }
 {
     let mut start = 0;
     let mut used = 0;
@@ -88,7 +94,10 @@ fn put_lent(
     two: &mut [u32; LONGEST_LIST],
     spare: &mut [u32; SPARE],
 ) -> io::Result<usize>
-    ensures { IfOk result (λ start. start ≤ length held.now) }
+    ensures ok { IfOk result (λ start. start ≤ length held.now) }
+    ensures err { OnErr result
+        ((length out.new ≡ length out.old) × (length one.new ≡ length one.old)
+        × (length two.new ≡ length two.old) × (length spare.new ≡ length spare.old)) }
 {
     put_lines(to, held, out, one, two, spare)
 }

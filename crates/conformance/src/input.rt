@@ -1,7 +1,7 @@
 // The lines of the input.
 // An error is that of a read or a write that failed, and no other: nothing is read or answered after it, and the buffer
 // keeps its length; nothing more is said of what it holds then.
-ghost use Rattle.std.specs.Prelude.{◌≤◌, length, IfOk};
+ghost use Rattle.std.specs.Prelude.{◌≤◌, length, IfOk, ◌≡◌, OnErr};
 
 use crate::answers::answer_lines;
 use conformance_io::input::{fill, keep, make_room};
@@ -17,7 +17,8 @@ struct Progress {
 // Reads once, and answers what is whole then.
 fn turn(rt: &HostRuntime, buffer: &mut [u8], held: usize) -> io::Result<Progress>
     requires { held ≤ length buffer.old }
-    ensures { IfOk result (λ progress. progress.held ≤ length buffer.new) }
+    ensures ok { IfOk result (λ progress. progress.held ≤ length buffer.new) }
+    ensures err { OnErr result (length buffer.new ≡ length buffer.old) }
 {
     let filled = fill(rt.stdin(), buffer, held)?;
     if filled <= held {
@@ -34,7 +35,8 @@ fn turn(rt: &HostRuntime, buffer: &mut [u8], held: usize) -> io::Result<Progress
 // A proved loop has to end, and nothing says that the input does. So it counts its turns down, from a number that no
 // run uses up.
 fn answer_whole(rt: &HostRuntime, buffer: &mut [u8]) -> io::Result<usize>
-    ensures { IfOk result (λ held. held ≤ length buffer.new) }
+    ensures ok { IfOk result (λ held. held ≤ length buffer.new) }
+    ensures err { OnErr result (length buffer.new ≡ length buffer.old) }
 {
     let mut held = 0;
     let mut turns = u64::MAX;

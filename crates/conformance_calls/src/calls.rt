@@ -1,7 +1,7 @@
 // From a call's inputs to its answer.
 // An error is that of a write that failed, and no other: nothing is put after it, and every list and buffer keeps its
 // length; nothing more is said of what they hold then.
-ghost use Rattle.std.specs.Prelude.{◌≤◌, ◌<◌, length, IfOk};
+ghost use Rattle.std.specs.Prelude.{◌≤◌, ◌<◌, length, IfOk, ◌≡◌, OnErr};
 ghost use Rattle.conformance_cases.specs.Cases.{Parted};
 ghost use Rattle.conformance_io.specs.Changes.{Lent};
 ghost use Rattle.conformance_io.specs.Output.{Used};
@@ -89,7 +89,10 @@ fn put_case(
     requires used { Used out.old used }
     requires lent { Lent one.old two.old spare.old case.end }
     requires parted { Parted spare.old case.middle case.end }
-    ensures { IfOk result (Used out.new) }
+    ensures ok { IfOk result (Used out.new) }
+    ensures err { OnErr result
+        ((length out.new ≡ length out.old) × (length one.new ≡ length one.old)
+        × (length two.new ≡ length two.old) × (length spare.new ≡ length spare.old)) }
 {
     let lists = case.lists;
     let given = case_answer(call, case, one, two, spare);
@@ -110,7 +113,10 @@ pub fn put_call(
     spare: &mut [u32],
 ) -> io::Result<usize>
     requires { Used out.old used }
-    ensures { IfOk result (Used out.new) }
+    ensures ok { IfOk result (Used out.new) }
+    ensures err { OnErr result
+        ((length out.new ≡ length out.old) × (length one.new ≡ length one.old)
+        × (length two.new ≡ length two.old) × (length spare.new ≡ length spare.old)) }
 {
     let case = take_case(line, at, call.shape(), one, two, spare);
     if !case.is_right {

@@ -1,7 +1,8 @@
 // What a call changed in the banks. A flash read that waits may change a whole region, so changes are not held anywhere:
 // they are counted, and then each is put.
 // What asks for room is no call of the device: its callers show it.
-ghost use Rattle.std.specs.Prelude.{◌≤◌, length, IfOk};
+// An error is that of a write that failed, and no other: nothing is put after it, and the lists keep their lengths.
+ghost use Rattle.std.specs.Prelude.{◌≤◌, length, IfOk, ◌≡◌, OnErr};
 ghost use Rattle.conformance_io.specs.Changes.{Room};
 ghost use Rattle.conformance_io.specs.Output.{Used};
 
@@ -37,7 +38,8 @@ fn put_bank(
 ) -> io::Result<usize>
     requires used { Used out.old used }
     requires room { Room words.now before.now }
-    ensures { IfOk result (Used out.new) }
+    ensures ok { IfOk result (Used out.new) }
+    ensures err { OnErr result (length out.new ≡ length out.old) }
 {
     let mut end = used;
     let mut at = next_difference(words, before, 0);
@@ -75,7 +77,8 @@ fn put_changes(
     requires used { Used out.old used }
     requires room { Room one.now spare.old }
     requires room_2 { Room two.now spare.old }
-    ensures { IfOk result (Used out.new) }
+    ensures ok { IfOk result (Used out.new) }
+    ensures err { OnErr result ((length out.new ≡ length out.old) × (length spare.new ≡ length spare.old)) }
 {
     let count = count_all(line, at, one, two, spare);
     let counted = put_next(to, out, used, count as u64)?;
@@ -102,7 +105,8 @@ pub fn put_given(
     requires count_bound { answer.count ≤ 26 }
     requires room { Room one.now spare.old }
     requires room_2 { Room two.now spare.old }
-    ensures { IfOk result (Used out.new) }
+    ensures ok { IfOk result (Used out.new) }
+    ensures err { OnErr result ((length out.new ≡ length out.old) × (length spare.new ≡ length spare.old)) }
 {
     let has_changes = answer.has_changes;
     let numbers = put_numbers(to, out, used, answer)?;

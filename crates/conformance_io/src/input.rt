@@ -1,6 +1,7 @@
 // Standard input, in a buffer whose first bytes are held.
 // What asks for bytes within the buffer is no call of the device: its callers show it.
-ghost use Rattle.std.specs.Prelude.{◌≤◌, length, IfOk};
+// An error is that of a read that failed, and no other: the buffer keeps its length.
+ghost use Rattle.std.specs.Prelude.{◌≤◌, length, IfOk, ◌≡◌, OnErr};
 
 use std::io;
 use std::io::{Read, Stdin};
@@ -8,7 +9,8 @@ use std::io::{Read, Stdin};
 // Reads once after the held bytes; gives how many are held then, no more than before at the end of the input.
 pub fn fill(mut from: Stdin, buffer: &mut [u8], held: usize) -> io::Result<usize>
     requires { held ≤ length buffer.old }
-    ensures { IfOk result (λ filled. (held ≤ filled) × (filled ≤ length buffer.new)) }
+    ensures ok { IfOk result (λ filled. (held ≤ filled) × (filled ≤ length buffer.new)) }
+    ensures err { OnErr result (length buffer.new ≡ length buffer.old) }
 {
     let got = from.read(&mut buffer[held..])?;
     Ok(held + got)

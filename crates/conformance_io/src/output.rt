@@ -1,7 +1,8 @@
 // Standard output, by way of a buffer whose first bytes are used. Each function that puts something gives how many are
 // used then; a full buffer is written out first.
 // What asks for bytes within the buffer is no call of the device: its callers show it.
-ghost use Rattle.std.specs.Prelude.{◌≡◌, ◌≤◌, length, IfOk};
+// An error is that of a write that failed, and no other: nothing is put after it, and the buffer keeps its length.
+ghost use Rattle.std.specs.Prelude.{◌≡◌, ◌≤◌, length, IfOk, OnErr};
 ghost use Rattle.conformance_io.specs.Output.{Used};
 
 use crate::answer::Answer;
@@ -20,7 +21,8 @@ pub fn flush(to: Stdout, out: &[u8], used: usize) -> io::Result<usize>
 
 fn put_byte(to: Stdout, out: &mut [u8], used: usize, byte: u8) -> io::Result<usize>
     requires { Used out.old used }
-    ensures { IfOk result (Used out.new) }
+    ensures ok { IfOk result (Used out.new) }
+    ensures err { OnErr result (length out.new ≡ length out.old) }
 {
     if used < out.len() {
         out[used] = byte;
@@ -33,7 +35,8 @@ fn put_byte(to: Stdout, out: &mut [u8], used: usize, byte: u8) -> io::Result<usi
 
 fn put_bytes(to: Stdout, out: &mut [u8], used: usize, bytes: &[u8]) -> io::Result<usize>
     requires { Used out.old used }
-    ensures { IfOk result (Used out.new) }
+    ensures ok { IfOk result (Used out.new) }
+    ensures err { OnErr result (length out.new ≡ length out.old) }
 {
     let mut at = used;
     let mut i = 0;
@@ -46,7 +49,8 @@ fn put_bytes(to: Stdout, out: &mut [u8], used: usize, bytes: &[u8]) -> io::Resul
 
 fn put_number(to: Stdout, out: &mut [u8], used: usize, number: u64) -> io::Result<usize>
     requires { Used out.old used }
-    ensures { IfOk result (Used out.new) }
+    ensures ok { IfOk result (Used out.new) }
+    ensures err { OnErr result (length out.new ≡ length out.old) }
 {
     let mut digits = Buffer::new();
     put_bytes(to, out, used, digits.format(number).as_bytes())
@@ -55,7 +59,8 @@ fn put_number(to: Stdout, out: &mut [u8], used: usize, number: u64) -> io::Resul
 // A number after a blank.
 pub fn put_next(to: Stdout, out: &mut [u8], used: usize, number: u64) -> io::Result<usize>
     requires { Used out.old used }
-    ensures { IfOk result (Used out.new) }
+    ensures ok { IfOk result (Used out.new) }
+    ensures err { OnErr result (length out.new ≡ length out.old) }
 {
     let blank = put_byte(to, out, used, b' ')?;
     put_number(to, out, blank, number)
@@ -71,7 +76,8 @@ pub fn wide(number: u32) -> u64
 fn put_rest(to: Stdout, out: &mut [u8], used: usize, answer: Answer) -> io::Result<usize>
     requires used { Used out.old used }
     requires count_bound { answer.count ≤ 26 }
-    ensures { IfOk result (Used out.new) }
+    ensures ok { IfOk result (Used out.new) }
+    ensures err { OnErr result (length out.new ≡ length out.old) }
 {
     let words = answer.words;
     let mut at = used;
@@ -87,7 +93,8 @@ fn put_rest(to: Stdout, out: &mut [u8], used: usize, answer: Answer) -> io::Resu
 pub fn put_numbers(to: Stdout, out: &mut [u8], used: usize, answer: Answer) -> io::Result<usize>
     requires used { Used out.old used }
     requires count_bound { answer.count ≤ 26 }
-    ensures { IfOk result (Used out.new) }
+    ensures ok { IfOk result (Used out.new) }
+    ensures err { OnErr result (length out.new ≡ length out.old) }
 {
     if answer.count == 0 {
         return put_byte(to, out, used, b'?');
@@ -100,7 +107,8 @@ pub fn put_numbers(to: Stdout, out: &mut [u8], used: usize, answer: Answer) -> i
 // The end of a line.
 pub fn put_end(to: Stdout, out: &mut [u8], used: usize) -> io::Result<usize>
     requires { Used out.old used }
-    ensures { IfOk result (Used out.new) }
+    ensures ok { IfOk result (Used out.new) }
+    ensures err { OnErr result (length out.new ≡ length out.old) }
 {
     put_byte(to, out, used, b'\n')
 }

@@ -4,7 +4,7 @@
 // buffers keep their lengths then, and nothing more is said of what they hold.
 #![tactic(auto)]
 
-ghost use Rattle.std.specs.Prelude.{◌+◌, ◌≤◌, ◌<◌, length, IfOk};
+ghost use Rattle.std.specs.Prelude.{◌+◌, ◌≤◌, ◌<◌, length, IfOk, ◌≡◌, OnErr};
 ghost use Rattle.script_program.specs.Program.{output_room};
 
 use script_program::{OUTPUT, print};
@@ -57,7 +57,8 @@ fn play_all(to: Stdout, input: &[u8], out: &mut [u8]) -> io::Result<()>
 
 // Reads until the buffer is full or the input ends; gives how many bytes are read.
 fn read_full(mut from: Stdin, input: &mut [u8]) -> io::Result<usize>
-    ensures { IfOk result (λ count. count ≤ length input.new) }
+    ensures ok { IfOk result (λ count. count ≤ length input.new) }
+    ensures err { OnErr result (length input.new ≡ length input.old) }
 {
     let mut count = 0;
     while count < input.len() {
