@@ -27,7 +27,8 @@ ready g d lengths sram h =
     record { lent = fits g lengths sram lent; possible = can }
   where
     -- whichever is judged first
-    go : (a : Bool) → accepted_of (lent_decline_of g lengths sram) ≡ a → (c : Bool) → possible_of g d ≡ c → accepted_of (common_decline_of g d lengths sram) ≡ true
+    go : (a : Bool) → accepted_of (lent_decline_of g lengths sram) ≡ a → (c : Bool) → possible_of g d ≡ c
+        → accepted_of (common_decline_of g d lengths sram) ≡ true
         → (accepted_of (lent_decline_of g lengths sram) ≡ true) × (possible_of g d ≡ true)
     go true ea true ec h = (ea, ec)
     go true ea false ec h = true_not_false (sym (simp (ea, ec) at h))

@@ -16,9 +16,11 @@ use Rattle.register_access.specs.Store.{has_form_of, may_store_of, store_decline
 use Rattle.controller.specs.Examples.{Examples}
 
 pub examples : Examples
-unfolding has_form_of may_store_of store_decline_of launches_of con_store_of applied_of store_accepted_of store_of key_next_of key_after_read_of con_takes_of launch_of
+unfolding has_form_of may_store_of store_decline_of launches_of con_store_of applied_of store_accepted_of store_of key_next_of
+    key_after_read_of con_takes_of launch_of
     unit_of target_of target_begins_of begins_at_of length_of implemented_of launched_fits_of nothing_launched_of resting_of running_of possible_of
-    program_protected_of register_of lengths_fit_of lent_decline_up_to common_decline_of listed_of in_range_up_to in_window_of locate_of read_decline_of register_read_of
+    program_protected_of register_of lengths_fit_of lent_decline_up_to common_decline_of listed_of in_range_up_to in_window_of
+    locate_of read_decline_of register_read_of
 examples =
     record {
       runs = refl;

@@ -220,7 +220,8 @@ launches g s form value idle on =
 
 -- ---- as launched
 -- an accepted store that 01 accepts finds the device at rest
-at_rest_lem : (g : Geometry) (d : Device) (r form : ℕ) → accepted_of (store_decline_of g d r form) ≡ true → (running d && loads_of r) ≡ false → running d ≡ false
+at_rest_lem : (g : Geometry) (d : Device) (r form : ℕ) → accepted_of (store_decline_of g d r form) ≡ true → (running d && loads_of r) ≡ false
+    → running d ≡ false
 unfolding may_store_of
 at_rest_lem g d r form ok quiet = go (running d) refl (store_ready g d r form ok).may quiet
   where

@@ -297,7 +297,8 @@ module _ (g : Geometry) (s : State) (sram : List ℕ) (address : ℕ) where
       (ok, stalls g s sram address ok (not-true _ busy))
 
 -- an SRAM that is not too long is no part of declines 1 to 3
-same_declines : (g : Geometry) (d : Device) (lengths : List ℕ) (sram : ℕ) → sram ≤ most_sram → common_decline_of g d lengths sram ≡ common_decline_of g d lengths 0
+same_declines : (g : Geometry) (d : Device) (lengths : List ℕ) (sram : ℕ) → sram ≤ most_sram
+    → common_decline_of g d lengths sram ≡ common_decline_of g d lengths 0
 unfolding common_decline_of lent_decline_up_to lengths_fit_of
 same_declines g d lengths sram short = rw (le-leb sram most_sram short)
 

@@ -58,4 +58,5 @@ pub record FlashReadSentences (g : Geometry) (s : State) (sram : List ℕ) (addr
 pub record FlashReadsFixed : Type 0 where
   -- every flash read is so, and nothing else is
   pub meets : (g : Geometry) (s : State) (sram : List ℕ) (address : ℕ) → FlashReadSentences g s sram address (flash_read_of g s sram address)
-  pub fixes : (g : Geometry) (s : State) (sram : List ℕ) (address : ℕ) (r : Reading) → FlashReadSentences g s sram address r → r ≡ flash_read_of g s sram address
+  pub fixes : (g : Geometry) (s : State) (sram : List ℕ) (address : ℕ) (r : Reading) → FlashReadSentences g s sram address r
+      → r ≡ flash_read_of g s sram address

@@ -28,7 +28,8 @@ past : (bytes rest : List ℕ) (k i j : ℕ) → i ≡ words_in bytes + j → ge
 past bytes rest k i j e =
     let from : i ≡ length (lane_of bytes k) + j = omega (arith, lane_length bytes k) in rw from (get_or-append-add (lane_of bytes k) rest j 0)
 
-pub out_at : (bytes : List ℕ) (k j : ℕ) → k < 4 → j < words_in bytes → get_or (lanes_out_of bytes) (in_lanes (words_in bytes) k j) 0 ≡ get_or bytes (in_words k j) 0
+pub out_at : (bytes : List ℕ) (k j : ℕ) → k < 4 → j < words_in bytes
+    → get_or (lanes_out_of bytes) (in_lanes (words_in bytes) k j) 0 ≡ get_or bytes (in_words k j) 0
 unfolding lanes_out_of
 out_at bytes k j h l =
     let n = words_in bytes in
@@ -44,7 +45,8 @@ pub back_length : (lanes : List ℕ) → length (lanes_back_of lanes) ≡ 4 * wo
 unfolding lanes_back_of
 back_length lanes = tabulate_length _ (4 * words_in lanes)
 
-pub back_at : (lanes : List ℕ) (k j : ℕ) → k < 4 → j < words_in lanes → get_or (lanes_back_of lanes) (in_words k j) 0 ≡ get_or lanes (in_lanes (words_in lanes) k j) 0
+pub back_at : (lanes : List ℕ) (k j : ℕ) → k < 4 → j < words_in lanes
+    → get_or (lanes_back_of lanes) (in_words k j) 0 ≡ get_or lanes (in_lanes (words_in lanes) k j) 0
 unfolding lanes_back_of
 back_at lanes k j h l =
     let word : (4 * j + k) / 4 ≡ j = omega arith in

@@ -139,8 +139,10 @@ module _ (g : Geometry) (ok : InRange g) where
   -- a window is whole pages
   page_end : (program : Bool) (x : ℕ) → x < window_bytes_of g program
       → round_down_of x (page_bytes_of g) + page_bytes_of g ≤ window_bytes_of g program
-  page_end true x h = omega (arith, mul-le-mul ((div-lt_iff_lt-mul (page_pos g ok)).1 h) (le_refl (page_bytes_of g)), suc-mul (x / page_bytes_of g) (page_bytes_of g))
-  page_end false x h = omega (arith, mul-le-mul ((div-lt_iff_lt-mul (page_pos g ok)).1 h) (le_refl (page_bytes_of g)), suc-mul (x / page_bytes_of g) (page_bytes_of g))
+  page_end true x h =
+      omega (arith, mul-le-mul ((div-lt_iff_lt-mul (page_pos g ok)).1 h) (le_refl (page_bytes_of g)), suc-mul (x / page_bytes_of g) (page_bytes_of g))
+  page_end false x h =
+      omega (arith, mul-le-mul ((div-lt_iff_lt-mul (page_pos g ok)).1 h) (le_refl (page_bytes_of g)), suc-mul (x / page_bytes_of g) (page_bytes_of g))
 
   -- the offset of an address that was rounded to a quad, row or page is rounded too
   pub unit_kept : (u m : ℕ) → Unit g u m → (b : ℕ) → (locate_of g (round_down_of b u)).inside ≡ true

@@ -48,7 +48,8 @@ pub record Lengths (g : Geometry) : Type 0 where
 
 -- steps begin exactly where NVMOP is 2 to 7 and there is no failure
 pub record Beginning : Type 0 where
-  pub begins : (g : Geometry) (op address pwp : ℕ) → in_range_of g ≡ true → 2 ≤ op → op ≤ 7 → (Fails g op address pwp → ⊥) → begins_at_of g op address pwp ≡ true
+  pub begins : (g : Geometry) (op address pwp : ℕ) → in_range_of g ≡ true → 2 ≤ op → op ≤ 7 → (Fails g op address pwp → ⊥)
+      → begins_at_of g op address pwp ≡ true
   pub only : (g : Geometry) (op address pwp : ℕ) → in_range_of g ≡ true → begins_at_of g op address pwp ≡ true
       → (2 ≤ op) × ((op ≤ 7) × (Fails g op address pwp → ⊥))
   pub lengths : (g : Geometry) → Lengths g

@@ -61,7 +61,8 @@ module _ (minute duration : ℕ) (lent : List ℕ) where
   pub window_out : (i : ℕ) → i < window_count_of lent → window_in_range_of (window_at lent i) ≡ false → in_range_of minute duration lent ≡ false
   unfolding in_range_of
   window_out i l h =
-      rw (not_all_below (λ (k : ℕ). window_in_range_of (window_at lent k)) (window_count_of lent) i l h) (and-false (numbers_in_range_of minute duration (length lent)))
+      rw (not_all_below (λ (k : ℕ). window_in_range_of (window_at lent k)) (window_count_of lent) i l h)
+      (and-false (numbers_in_range_of minute duration (length lent)))
 
   pub all_in : numbers_in_range_of minute duration (length lent) ≡ true → windows_in_range_of lent (window_count_of lent) ≡ true
       → in_range_of minute duration lent ≡ true

@@ -43,7 +43,8 @@ same_but_words g j a b (suc (suc (suc (suc (suc k))))) same = refl
 
 -- ---- a quad's words
 -- of a quad that is not the sequence quad: the image's
-image_word : (g : Geometry) (image : List ℕ) (w j n : ℕ) → (j ≡ sequence_quad_of g → ⊥) → n < 4 → word_at (new_quad_of g image w j) n ≡ word_at image (4 * j + n)
+image_word : (g : Geometry) (image : List ℕ) (w j n : ℕ) → (j ≡ sequence_quad_of g → ⊥) → n < 4
+    → word_at (new_quad_of g image w j) n ≡ word_at image (4 * j + n)
 unfolding new_quad_of
 image_word g image w j n ne l =
     rw (ne_eqb j (sequence_quad_of g) ne) (quad_word image j n l)
@@ -88,7 +89,8 @@ module _ (g : Geometry) (image other : List ℕ) (i w : ℕ) (one : OneWord imag
   same_elsewhere : (k : ℕ) → (k ≡ data_place_of g i → i / 4 ≡ sequence_quad_of g) → get_or (actions_of g image w) k Step ≡ get_or (actions_of g other w) k Step
   same_elsewhere k left_out = go (dec_lt k (total_of g)) (dec_lt k (programming_from g))
     where
-      listed : k < total_of g → action_at_of g image w k ≡ action_at_of g other w k → get_or (actions_of g image w) k Step ≡ get_or (actions_of g other w) k Step
+      listed : k < total_of g → action_at_of g image w k ≡ action_at_of g other w k
+          → get_or (actions_of g image w) k Step ≡ get_or (actions_of g other w) k Step
       listed l same = sym (action_listed g image w k l) ∙ same ∙ action_listed g other w k l
 
       past : (actions : List Action) → length actions ≡ total_of g → total_of g ≤ k → get_or actions k Step ≡ Step

@@ -58,7 +58,8 @@ module _ (g : Geometry) (s : State) (image other : List ℕ) (i : ℕ) (update :
   both_moved : (a b c d : Position) → a ≡ c → b ≡ d → Both a b × Lives a b → Both c d × Lives c d
   both_moved a b c d e f h = rw (e, f) at h
 
-  turns_both : (l : List (List ℕ)) (p q : Position) → Both p q × Lives p q → let c = turns_of g image p l in let d = turns_of g other q l in Both c d × Lives c d
+  turns_both : (l : List (List ℕ)) (p q : Position) → Both p q × Lives p q
+      → let c = turns_of g image p l in let d = turns_of g other q l in Both c d × Lives c d
   turns_both [] p q h = h
   turns_both (sram ∷ l) p q (pair, live) =
       turns_both l (turned_of g image p sram) (turned_of g other q sram)

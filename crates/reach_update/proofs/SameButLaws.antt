@@ -50,7 +50,8 @@ put_near i l m h j q r e =
     let first : 4 * j ≡ 4 * j + 0 = omega arith in
     set_near i _ _
     (set_near i _ _
-    (set_near i _ _ (set_near i l m h (4 * j) (word_at q 0) (word_at r 0) (λ ne. e 0 (omega arith) (λ is. ne (first ∙ is)))) (4 * j + 1) (word_at q 1) (word_at r 1)
+    (set_near i _ _ (set_near i l m h (4 * j) (word_at q 0) (word_at r 0) (λ ne. e 0 (omega arith) (λ is. ne (first ∙ is))))
+    (4 * j + 1) (word_at q 1) (word_at r 1)
     (e 1 (omega arith)))
     (4 * j + 2) (word_at q 2) (word_at r 2) (e 2 (omega arith)))
     (4 * j + 3) (word_at q 3) (word_at r 3) (e 3 (omega arith))

@@ -142,13 +142,19 @@ module _ (g : Geometry) (d : Device) (form value : ℕ) where
     unfolding register_of
     launched_store =
         record {
-          clears = λ zero.
-              (event (clears zero), λ k. con (clears zero) k ∙ cleared new 0x3000 k (fields 0x2000 0x1000 k (one_bit 13 k) (one_bit 12 k)) ∙ rw (stored_bit_lem k));
+          clears = λ zero. (
+            event (clears zero),
+            λ k. con (clears zero) k ∙ cleared new 0x3000 k (fields 0x2000 0x1000 k (one_bit 13 k) (one_bit 12 k))
+                ∙ rw (stored_bit_lem k),
+          );
           errors = λ some e. (event (errors some e), λ k. con (errors some e) k ∙ stored_bit_lem k);
           unknown = λ op e. (event (unknown op e), λ k. con (unknown op e) k ∙ stored_bit_lem k);
           fails = λ t f. (event (fails t f), λ k. con (fails t f) k ∙ raised new 0x2000 k (one_bit 13 k) ∙ rw (stored_bit_lem k));
-          begins = λ t n.
-              (event (begins t n), λ k. con (begins t n) k ∙ raised new 0xA000 k (fields 0x8000 0x2000 k (one_bit 15 k) (one_bit 13 k)) ∙ rw (stored_bit_lem k));
+          begins = λ t n. (
+            event (begins t n),
+            λ k. con (begins t n) k ∙ raised new 0xA000 k (fields 0x8000 0x2000 k (one_bit 15 k) (one_bit 13 k))
+                ∙ rw (stored_bit_lem k),
+          );
           launched = λ t n q low high. operands q (begins t n) ∙ launched_registers d (after (result (begins t n))) q low high;
           kept = λ none q low high. kept q none (which g d listed);
         }

@@ -59,11 +59,13 @@ waiting_can = record { accepted = launch_can.accepted; unfinished = launch_can.u
 
 -- ---- the calls are not declined
 judged : JudgedCall smallest erasing_row example_call
-unfolding listed_of in_range_up_to lengths_fit_of lent_decline_up_to entry_stands_of queue_stands_of start_of apart_of bank_stands_of banks_stand_of row_stands_of row_decline_of
+unfolding listed_of in_range_up_to lengths_fit_of lent_decline_up_to entry_stands_of queue_stands_of start_of apart_of
+    bank_stands_of banks_stand_of row_stands_of row_decline_of
 judged = stands smallest 1 erasing_row.signs 2 (queue_of []) 0 (length example_store) (length example_image) 0 refl
 
 judged_waiting : JudgedCall smallest waiting_row example_call
-unfolding listed_of in_range_up_to lengths_fit_of lent_decline_up_to entry_stands_of queue_stands_of start_of apart_of bank_stands_of banks_stand_of row_stands_of row_decline_of
+unfolding listed_of in_range_up_to lengths_fit_of lent_decline_up_to entry_stands_of queue_stands_of start_of apart_of
+    bank_stands_of banks_stand_of row_stands_of row_decline_of
 judged_waiting = stands smallest 1 waiting_row.signs 2 (queue_of (1 ∷ [])) 0 (length example_store) (length example_image) 0 refl
 
 -- ---- record 1 is held back, and record 0 is served

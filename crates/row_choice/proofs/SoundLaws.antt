@@ -13,7 +13,8 @@ use Rattle.words.proofs.BitLaws.{true_not_false}
 use Rattle.words.proofs.PickLaws.{and_both}
 use Rattle.words.specs.Lists.{In}
 use Rattle.row_signs.specs.Signs.{left_of, waits_of}
-use Rattle.row_choice.specs.Choice.{Known, count_of, records_of, before_of, ready_of, from_queue_of, open_of, held_of, found_of, begins_of, served_of, waiters_of}
+use Rattle.row_choice.specs.Choice.{Known, count_of, records_of, before_of, ready_of, from_queue_of, open_of, held_of}
+use Rattle.row_choice.specs.Choice.{found_of, begins_of, served_of, waiters_of}
 use Rattle.row_choice.proofs.PlaceLaws.{after_seam, place_of, left_one_fewer, left_at}
 use Rattle.row_choice.proofs.RecordsLaws.{records_count, records_rising}
 use Rattle.row_choice.proofs.WaitsLaws.{waits_in_lem, not_waits, in_either}

@@ -1,6 +1,7 @@
 -- W-204, "Page sheet": each byte of the sheet by its page and its position in the line, the call that writes it, and that this fixes the
 -- call. Assumes nothing.
-use Rattle.std.specs.Prelude.{ℕ, ◌+◌, ◌*◌, ◌-◌, ◌/◌, ◌%◌, ◌^◌, ◌≤◌, ◌<◌, ◌≡◌, Bool, true, false, not, ◌&&◌, List, [], ◌∷◌, ◌⊎◌, eqb, leb, length, get_or, take, drop, set, replicate}
+use Rattle.std.specs.Prelude.{ℕ, ◌+◌, ◌*◌, ◌-◌, ◌/◌, ◌%◌, ◌^◌, ◌≤◌, ◌<◌, ◌≡◌, Bool, true, false, not, ◌&&◌, List, [], ◌∷◌}
+use Rattle.std.specs.Prelude.{◌⊎◌, eqb, leb, length, get_or, take, drop, set, replicate}
 use Rattle.words.specs.Word.{pick, bit}
 use Rattle.words.specs.Quad.{word_at}
 use Rattle.words.specs.Lists.{Ascending}

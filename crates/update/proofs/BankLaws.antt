@@ -243,7 +243,8 @@ module _ (g : Geometry) (ok : InRange g) where
     pub programmed_all : (image : List ℕ) (w : ℕ) → length image ≡ bank_words_of g → Programmed g image w bank (bank_quads_of g)
         → bank ≡ put_quad image (sequence_quad_of g) (next_sequence_of w)
     programmed_all image w size all =
-        by_quads (bank_quads_of g) bank (put_quad image s (next_sequence_of w)) (long ∙ word_count) (put_length image s (next_sequence_of w) ∙ size ∙ word_count)
+        by_quads (bank_quads_of g) bank (put_quad image s (next_sequence_of w)) (long ∙ word_count)
+        (put_length image s (next_sequence_of w) ∙ size ∙ word_count)
         (λ j h. ours j h ∙ theirs j (ℕ_discrete j s))
       where
         s : ℕ

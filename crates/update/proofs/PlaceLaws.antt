@@ -29,7 +29,8 @@ total_place g = omega arith
 
 module _ (g : Geometry) (image : List ℕ) (w : ℕ) where
   -- a page's action, and a quad's
-  pub page-action : (i j : ℕ) → i < pages_of g → j < page_actions g → action_at_of g image w (12 + i * page_actions g + j) ≡ page_action_of g (erased_page_of g i) j
+  pub page-action : (i j : ℕ) → i < pages_of g → j < page_actions g
+      → action_at_of g image w (12 + i * page_actions g + j) ≡ page_action_of g (erased_page_of g i) j
   unfolding action_at_of
   page-action i j l m =
       let at = 12 + i * page_actions g + j in
@@ -55,7 +56,8 @@ shifted : {A : Type 0} (x : A) (l : List A) (d : A) (k : ℕ) → 0 < k → get_
 shifted x l d zero h = absurd (not-suc-le-zero h)
 shifted x l d (suc k) h = let e : suc k - 1 ≡ k = omega arith in rw e
 
-pub launch_of_quad : (g : Geometry) (j : ℕ) (words : List ℕ) (k : ℕ) → 5 ≤ k → k < 11 → get_or (stored (launch_stores 2)) (k - 5) Step ≡ quad_action_of g j words k
+pub launch_of_quad : (g : Geometry) (j : ℕ) (words : List ℕ) (k : ℕ) → 5 ≤ k → k < 11
+    → get_or (stored (launch_stores 2)) (k - 5) Step ≡ quad_action_of g j words k
 unfolding quad_action_of
 launch_of_quad g j words k lo hi =
     let word : ℕ → Access = λ n. access (3 + n) 0 (word_at words n) in

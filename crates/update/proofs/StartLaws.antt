@@ -221,7 +221,8 @@ start_range g s words h =
 module _ (u : Fixed) (f : Device) (new : List ℕ) where
   open u use {g, image, b, old, listed, image_long, old_long, valid}
 
-  pub declined_whole : length new ≡ bank_words_of g → chosen_of b (word_at old (sequence_index_of g)) (word_at new (sequence_index_of g)) ≡ not b → CanStart g b f
+  pub declined_whole : length new ≡ bank_words_of g → chosen_of b (word_at old (sequence_index_of g)) (word_at new (sequence_index_of g)) ≡ not b
+      → CanStart g b f
       → (start_of g (placed b f old new) image).decline ≡ Decline.Sequence
   unfolding start_of start_decline_of sequence_allows_of
   declined_whole long wins can =

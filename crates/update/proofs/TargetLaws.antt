@@ -153,7 +153,8 @@ module _ (g : Geometry) (ok : InRange g) where
     place_effect j at = rw (at, not_blocked j, in_upper j, place_quad j)
 
     -- step k of a page erase
-    pub erase_effect : (p k : ℕ) → p < pages_of g → k < page_quads_of g → op_of d ≡ 4 → d.launched.nvmaddr ≡ upper_address_of g (p * page_quads_of g) → d.step ≡ k
+    pub erase_effect : (p k : ℕ) → p < pages_of g → k < page_quads_of g → op_of d ≡ 4 → d.launched.nvmaddr ≡ upper_address_of g (p * page_quads_of g)
+        → d.step ≡ k
         → effect_of g (state d one two) sram ≡ effect false true (not (bfswap d)) (p * page_quads_of g + k) blank_quad
     unfolding step_at_of effect_at_of
     erase_effect p k h l op address step = place_effect (p * page_quads_of g + k) at ∙ erases
