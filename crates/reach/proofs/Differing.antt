@@ -84,7 +84,7 @@ module _ (g : Geometry) (image other : List ℕ) where
           let (long, (too, end)) = (fits g lengths 0 on).banks in
           not_one (eqb-true number 0 on)
           (λ i one. not (ap (λ (e : Difference). e.count)
-              (found_one image other i one (bank_words_of g) (within image other i one (bank_words_of g) long too))))
+          (found_one image other i one (bank_words_of g) (within image other i one (bank_words_of g) long too))))
           (record {
             difference = d;
             words = differing_of image other (bank_words_of g);

@@ -44,7 +44,7 @@ module _ (g : Geometry) (r : RowState) (c : Call) where
         can = known_can g r c (waiter_at r (ready_of known)) (sym (can_waiter (ready_of known) within) ∙ (ready_first known).found q.ready);
         first = λ p before can.
             true_not_false (sym (can_known g r c (waiter_at r p) can) ∙ sym (can_waiter p (omega (arith, before, within)))
-                ∙ (ready_first known).before p before);
+            ∙ (ready_first known).before p before);
       }
 
   -- where one can be served the queue gives one

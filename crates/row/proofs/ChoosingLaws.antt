@@ -110,7 +110,7 @@ module _ (g : Geometry) (r : RowState) (c : Call) (judged : JudgedCall g r c) wh
 
   idle_case : Nobody g r c
       → ((answer_of g r c).idle ≡ true) × (((answer_of g r c).served ≡ 0) × (((answer_of g r c).event ≡ false)
-          × Joined g r c (after_of g r c) (length r.signs)))
+      × Joined g r c (after_of g r c) (length r.signs)))
   idle_case nobody =
       let h = none_queue g r c nobody.nobody in
       let e : n ≡ found_of known = nobody_found g r c judged.last_below nobody in

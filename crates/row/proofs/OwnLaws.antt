@@ -99,7 +99,7 @@ module _ (g : Geometry) (image : List ℕ) where
             → position_at g (row_moved_of g image r (read i sram address)) j ≡ moves_of g image (position_at g r j) (pick b (Move.read sram address ∷ []) [])
         go true e =
             subst (λ (n : ℕ). position_at g (row_moved_of g image r (read n sram address)) j ≡ moves_of g image (position_at g r j)
-                (Move.read sram address ∷ []))
+            (Move.read sram address ∷ []))
             (sym (eqb-true i j e))
             (put_own j (flash_read_of g (state_at g r j) sram address).after.state (λ l. read_lengths (state_at g r j) sram address) (ltb j (length r.signs))
             refl l)
@@ -130,7 +130,7 @@ module _ (g : Geometry) (image : List ℕ) where
         go true ea false eb true ed =
             let (listed, (can, (sign, (last, turned)))) = o.served (eqb-true _ 0 ea) eb in
             subst (λ (x : ℕ). position_at g (after_of g r (call_of image k sram)) x ≡ moves_of g image (position_at g r x) (Move.turn sram ∷ []))
-                (eqb-true _ j ed)
+            (eqb-true _ j ed)
             (rw (turned, ap (λ (s : Sign). s.place) sign) refl)
 
     own_move : (m : RowMove) (j : ℕ) → j < length r.signs

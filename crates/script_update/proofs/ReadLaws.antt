@@ -62,7 +62,7 @@ first_records_lem [] (suc i) m = absurd (omega arith)
 first_records_lem (a ∷ l) (suc i) m =
     let far : 8 * suc i ≡ length (bytes_of (recorded a)) + 8 * i = rw (record_length (recorded a)) (omega arith) in
     rw far (take-append-add (bytes_of (recorded a)) (record_bytes_of l) (8 * i)
-        ∙ ap (λ (m : List ℕ). bytes_of (recorded a) ++ m) (first_records_lem l i (omega arith)))
+    ∙ ap (λ (m : List ℕ). bytes_of (recorded a) ++ m) (first_records_lem l i (omega arith)))
 
 module _ (l : List Action) (fits : AllFit l) (n : ℕ) (few : n ≤ length l) where
   first_length : length (take n l) ≡ n

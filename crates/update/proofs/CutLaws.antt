@@ -234,7 +234,7 @@ module _ (u : Fixed) where
   pub left_as : (d : Device) (new after : List ℕ) (c : Cut) → accepted_of (reset_by g (placed b d old new) c).decline ≡ true
       → tear_of g (placed b d old new) c.sram c.mask ≡ placed b d old after
       → (reset_by g (placed b d old new) c).state ≡ placed b
-          (reset_device_of d c.kind (chosen_of b (old_word u) (word_at after (sequence_index_of g)))) old after
+      (reset_device_of d c.kind (chosen_of b (old_word u) (word_at after (sequence_index_of g)))) old after
   left_as d new after c accepted torn =
       ap (λ (a : After). a.state) (carried (placed b d old new) c accepted)
       ∙ ap (λ (s : State). (restart_of g s c.kind).state) torn

@@ -157,7 +157,7 @@ one_position g s image update A B place =
 -- and the action of its place is the list's: t is what it was at the start
 pub turns_action : (g : Geometry) (s : State) (image : List ℕ) → Update g s image → (srams : List (List ℕ)) → place_after g s image srams < total_of g
     → next_action_of g (after_turns g s image srams) image (place_after g s image srams) ≡ action_at_of g image (lower_word_of g s)
-        (place_after g s image srams)
+    (place_after g s image srams)
 turns_action g s image update srams l =
     let u = start_fixed g s image update (old s) refl in
     stands_action u (turns_of g image (at s 0) srams) (stands_turns u (at s 0) (start_stands g s image update (old s) refl) srams) l

@@ -106,7 +106,7 @@ module _ (g : Geometry) (s : State) (image sram : List ℕ) (place : ℕ) where
     where
       go : (t : Bool) → eqb place (total_of g) ≡ t
           → pick (ltb place (total_of g)) (action_decline_of s.device (next_action_of g s image place))
-              (pick t Decline.Accepted Decline.Place) ≡ Decline.Accepted
+          (pick t Decline.Accepted Decline.Place) ≡ Decline.Accepted
       go true e = rw (le-ltb place (total_of g) (omega (arith, eqb-true place (total_of g) e)))
       go false e = let (below, ok) = acting h e in rw (lt-ltb place (total_of g) below, acts s.device (next_action_of g s image place) ok)
 
