@@ -173,6 +173,16 @@ pub fn put_sign(
     put(to, decline.number() as u64);
     put(to, started.total as u64);
     end_line(to);
-    put_places(to, sign, device, one, two, image, first, second, started.total);
+    put_places(
+        to,
+        sign,
+        device,
+        one,
+        two,
+        image,
+        first,
+        second,
+        started.total,
+    );
     started.total
 }

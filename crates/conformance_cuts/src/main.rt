@@ -109,5 +109,12 @@ fn main(rt: HostRuntime) {
     let mut image = [0u32; MOST_WORDS];
     let mut first = [0u32; MOST_WORDS];
     let mut second = [0u32; MOST_WORDS];
-    run(rt.stdout(), &mut one, &mut two, &mut image, &mut first, &mut second);
+    run(
+        rt.stdout(),
+        &mut one,
+        &mut two,
+        &mut image,
+        &mut first,
+        &mut second,
+    );
 }
