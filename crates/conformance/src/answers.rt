@@ -1,14 +1,11 @@
-// The answers to the lines that are held.
-// An error is that of a write that failed, and no other: no later line is answered, and every list and buffer keeps its
-// length; nothing more is said of what they hold then.
-ghost use Rattle.std.specs.Prelude.{◌≤◌, ◌<◌, length, take, IfOk, ◌≡◌, OnErr};
+// The answers to the lines that are held. A failed write is ignored, as a failed read is the end of the input.
+ghost use Rattle.std.specs.Prelude.{◌≤◌, ◌<◌, length, take, ◌≡◌};
 ghost use Rattle.conformance_io.specs.Output.{Used};
 
 use conformance_calls::calls::put_call;
 use conformance_calls::names::Call;
 use conformance_io::output::flush;
 use conformance_lists::bytes::find;
-use std::io;
 use std::io::Stdout;
 
 // The longest list that can be lent, in words: a page more than the largest bank.
@@ -42,12 +39,9 @@ fn put_line(
     one: &mut [u32],
     two: &mut [u32],
     spare: &mut [u32],
-) -> io::Result<usize>
+) -> usize
     requires { Used out.old used }
-    ensures ok { IfOk result (Used out.new) }
-    ensures err { OnErr result
-        ((length out.new ≡ length out.old) × (length one.new ≡ length one.old)
-        × (length two.new ≡ length two.old) × (length spare.new ≡ length spare.old)) }
+    ensures { Used out.new result }
 {
     let end = inputs_end(line);
     let inputs = &line[..end];
@@ -64,12 +58,9 @@ fn put_lines(
     one: &mut [u32],
     two: &mut [u32],
     spare: &mut [u32],
-) -> io::Result<usize>
+) -> usize
     requires { 0 < length out.old }
-    ensures ok { IfOk result (λ start. start ≤ length held.now) }
-    ensures err { OnErr result
-        ((length out.new ≡ length out.old) × (length one.new ≡ length one.old)
-        × (length two.new ≡ length two.old) × (length spare.new ≡ length spare.old)) }
+    ensures { result ≤ length held.now }
 {
     let mut start = 0;
     let mut used = 0;
@@ -78,11 +69,11 @@ fn put_lines(
         if held.len() <= end {
             break;
         }
-        used = put_line(to, &held[start..end], out, used, one, two, spare)?;
+        used = put_line(to, &held[start..end], out, used, one, two, spare);
         start = end + 1;
     }
-    flush(to, out, used)?;
-    Ok(start)
+    flush(to, out, used);
+    start
 }
 
 // Lends the arrays as slices. Where they are made their lengths would have to be counted out element by element.
@@ -93,18 +84,15 @@ fn put_lent(
     one: &mut [u32; LONGEST_LIST],
     two: &mut [u32; LONGEST_LIST],
     spare: &mut [u32; SPARE],
-) -> io::Result<usize>
-    ensures ok { IfOk result (λ start. start ≤ length held.now) }
-    ensures err { OnErr result
-        ((length out.new ≡ length out.old) × (length one.new ≡ length one.old)
-        × (length two.new ≡ length two.old) × (length spare.new ≡ length spare.old)) }
+) -> usize
+    ensures { result ≤ length held.now }
 {
     put_lines(to, held, out, one, two, spare)
 }
 
 // The same, with buffers of its own for the lists and the output.
-pub fn answer_lines(to: Stdout, held: &[u8]) -> io::Result<usize>
-    ensures { IfOk result (λ start. start ≤ length held.now) }
+pub fn answer_lines(to: Stdout, held: &[u8]) -> usize
+    ensures { result ≤ length held.now }
 {
     let mut out = [0u8; OUTPUT];
     let mut one = [0u32; LONGEST_LIST];

@@ -1,7 +1,5 @@
-// From a call's inputs to its answer.
-// An error is that of a write that failed, and no other: nothing is put after it, and every list and buffer keeps its
-// length; nothing more is said of what they hold then.
-ghost use Rattle.std.specs.Prelude.{◌≤◌, ◌<◌, length, IfOk, ◌≡◌, OnErr};
+// From a call's inputs to its answer. A failed write is ignored, as a failed read is the end of the input.
+ghost use Rattle.std.specs.Prelude.{◌≤◌, ◌<◌, length};
 ghost use Rattle.conformance_cases.specs.Cases.{Parted};
 ghost use Rattle.conformance_io.specs.Changes.{Lent};
 ghost use Rattle.conformance_io.specs.Output.{Used};
@@ -18,7 +16,6 @@ use conformance_cases::{Case, take_case};
 use conformance_io::answer::Answer;
 use conformance_io::changes::put_given;
 use conformance_io::output::{put_end, put_numbers};
-use std::io;
 use std::io::Stdout;
 
 // What a call that lends no list gives for its numbers.
@@ -85,14 +82,11 @@ fn put_case(
     one: &mut [u32],
     two: &mut [u32],
     spare: &mut [u32],
-) -> io::Result<usize>
+) -> usize
     requires used { Used out.old used }
     requires lent { Lent one.old two.old spare.old case.end }
     requires parted { Parted spare.old case.middle case.end }
-    ensures ok { IfOk result (Used out.new) }
-    ensures err { OnErr result
-        ((length out.new ≡ length out.old) × (length one.new ≡ length one.old)
-        × (length two.new ≡ length two.old) × (length spare.new ≡ length spare.old)) }
+    ensures { Used out.new result }
 {
     let lists = case.lists;
     let given = case_answer(call, case, one, two, spare);
@@ -111,16 +105,13 @@ pub fn put_call(
     one: &mut [u32],
     two: &mut [u32],
     spare: &mut [u32],
-) -> io::Result<usize>
+) -> usize
     requires { Used out.old used }
-    ensures ok { IfOk result (Used out.new) }
-    ensures err { OnErr result
-        ((length out.new ≡ length out.old) × (length one.new ≡ length one.old)
-        × (length two.new ≡ length two.old) × (length spare.new ≡ length spare.old)) }
+    ensures { Used out.new result }
 {
     let case = take_case(line, at, call.shape(), one, two, spare);
     if !case.is_right {
-        let mark = put_numbers(to, out, used, Answer::no_case())?;
+        let mark = put_numbers(to, out, used, Answer::no_case());
         return put_end(to, out, mark);
     }
     let first = case.one;

@@ -1,6 +1,4 @@
-// The cuts of an update.
-// An error is that of a write that failed, and no other: nothing is cut or put after it, and the banks and their copies
-// keep their lengths; nothing more is said of what they hold then.
+// The cuts of an update. A failed write is ignored.
 use crate::output::{end_line, put, put_first, put_flag, put_sums};
 use crate::signs::{Sign, copy, mask};
 use crate::sums::Sums;
@@ -8,7 +6,6 @@ use crate::updates::{Ended, restart, run_whole, turn_at};
 use device::builders::power_on;
 use device::record::Device;
 use geometry::banks::Geometry;
-use std::io;
 use std::io::Stdout;
 use update_start::start;
 
@@ -35,18 +32,18 @@ fn put_again(
     two: &mut [u32],
     image: &[u32],
     sums: Sums,
-) -> io::Result<Sums> {
+) -> Sums {
     let started = start(g, d, one, two, image);
     let decline = started.decline;
-    put(to, decline.number() as u64)?;
+    put(to, decline.number() as u64);
     if !decline.is_accepted() {
-        put(to, 0)?;
-        return Ok(sums);
+        put(to, 0);
+        return sums;
     }
     let ended = run_whole(g, d, one, two, image, started.total);
     let summed = sums.with_again(ended, one, two);
-    put(to, bank_after(g, ended, one, two) as u64)?;
-    Ok(summed)
+    put(to, bank_after(g, ended, one, two) as u64);
+    summed
 }
 
 // One cut by its number. The banks are copies.
@@ -59,16 +56,16 @@ fn put_cut(
     image: &[u32],
     number: u32,
     sums: Sums,
-) -> io::Result<Sums> {
+) -> Sums {
     let g = sign.geometry;
     let running = restart(g, d, one, two, number / MASKS, mask(number % MASKS));
     let device = running.device;
     let summed = sums.with_cut(device, one, two);
-    put(to, running.bank as u64)?;
+    put(to, running.bank as u64);
     if running.bank != sign.old {
-        put(to, 0)?;
-        put(to, 0)?;
-        return Ok(summed);
+        put(to, 0);
+        put(to, 0);
+        return summed;
     }
     put_again(to, g, device, one, two, image, summed)
 }
@@ -83,16 +80,16 @@ pub fn put_cuts(
     image: &[u32],
     first: &mut [u32],
     second: &mut [u32],
-) -> io::Result<()> {
+) {
     let mut sums = Sums::of(d, one, two);
     let mut number = 0;
     while number < CUTS {
         copy(one, first);
         copy(two, second);
-        sums = put_cut(to, sign, d, first, second, image, number, sums)?;
+        sums = put_cut(to, sign, d, first, second, image, number, sums);
         number += 1;
     }
-    put_sums(to, sums)
+    put_sums(to, sums);
 }
 
 // The rest of a line: the cuts of a state, and the turn of a place from it; gives the device after the turn.
@@ -106,15 +103,15 @@ pub fn put_cuts_and_turn(
     first: &mut [u32],
     second: &mut [u32],
     place: u32,
-) -> io::Result<Device> {
-    put_cuts(to, sign, d, one, two, image, first, second)?;
+) -> Device {
+    put_cuts(to, sign, d, one, two, image, first, second);
     let turned = turn_at(sign.geometry, d, one, two, image, place);
     let decline = turned.decline;
-    put(to, decline.number() as u64)?;
-    put_flag(to, turned.done)?;
-    put_flag(to, turned.event)?;
-    end_line(to)?;
-    Ok(turned.device)
+    put(to, decline.number() as u64);
+    put_flag(to, turned.done);
+    put_flag(to, turned.event);
+    end_line(to);
+    turned.device
 }
 
 // The line of a place; gives the device after its turn.
@@ -128,8 +125,8 @@ fn put_place(
     first: &mut [u32],
     second: &mut [u32],
     place: u32,
-) -> io::Result<Device> {
-    put_first(to, place)?;
+) -> Device {
+    put_first(to, place);
     put_cuts_and_turn(to, sign, d, one, two, image, first, second, place)
 }
 
@@ -144,15 +141,14 @@ fn put_places(
     first: &mut [u32],
     second: &mut [u32],
     total: u32,
-) -> io::Result<()> {
+) {
     let mut device = d;
     let mut place = 0;
     while place < total {
-        device = put_place(to, sign, device, one, two, image, first, second, place)?;
+        device = put_place(to, sign, device, one, two, image, first, second, place);
         place += 1;
     }
-    put_place(to, sign, device, one, two, image, first, second, total)?;
-    Ok(())
+    put_place(to, sign, device, one, two, image, first, second, total);
 }
 
 // The line of a sign, and those of its places; gives the total. The banks and the image are filled.
@@ -164,19 +160,19 @@ pub fn put_sign(
     image: &[u32],
     first: &mut [u32],
     second: &mut [u32],
-) -> io::Result<u32> {
+) -> u32 {
     let g = sign.geometry;
     let running = restart(g, power_on(), one, two, 0, mask(0));
     let device = running.device;
     let started = start(g, device, one, two, image);
     let decline = started.decline;
-    put_first(to, g.q)?;
-    put(to, g.b as u64)?;
-    put(to, g.p as u64)?;
-    put(to, running.bank as u64)?;
-    put(to, decline.number() as u64)?;
-    put(to, started.total as u64)?;
-    end_line(to)?;
+    put_first(to, g.q);
+    put(to, g.b as u64);
+    put(to, g.p as u64);
+    put(to, running.bank as u64);
+    put(to, decline.number() as u64);
+    put(to, started.total as u64);
+    end_line(to);
     put_places(
         to,
         sign,
@@ -187,6 +183,6 @@ pub fn put_sign(
         first,
         second,
         started.total,
-    )?;
-    Ok(started.total)
+    );
+    started.total
 }

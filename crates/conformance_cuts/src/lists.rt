@@ -1,6 +1,5 @@
 // Lists with a flash read: turns up to a place, then a read of the bank that is worked on, which carries out what remains.
-// An error is that of a write that failed, and no other: no list comes after it, and the banks and their copies keep
-// their lengths; nothing more is said of what they hold then.
+// A failed write is ignored.
 // What asks for room is no call of the device: its callers show it.
 ghost use Rattle.std.specs.Prelude.{◌<◌, ◌≤◌, length};
 
@@ -15,7 +14,6 @@ use device::registers::Nvmcon;
 use geometry::banks::{Geometry, in_range};
 use map::window_start;
 use reads::FlashRead;
-use std::io;
 use std::io::Stdout;
 use words::word::has;
 
@@ -50,22 +48,22 @@ fn run_to(sign: Sign, one: &mut [u32], two: &mut [u32], image: &[u32], place: u3
 }
 
 // The first numbers of a list with the whole read.
-fn put_read_answer(to: Stdout, place: u32, read: FlashRead) -> io::Result<()> {
+fn put_read_answer(to: Stdout, place: u32, read: FlashRead) {
     let decline = read.decline;
-    put_first(to, place)?;
-    put(to, 0)?;
-    put(to, decline.number() as u64)?;
-    put(to, read.word as u64)?;
-    put_flag(to, read.event)
+    put_first(to, place);
+    put(to, 0);
+    put(to, decline.number() as u64);
+    put(to, read.word as u64);
+    put_flag(to, read.event);
 }
 
 // The first numbers of a list that ends after so many steps of the read.
-fn put_step_answer(to: Stdout, place: u32, count: u32, stepped: Answer) -> io::Result<()> {
+fn put_step_answer(to: Stdout, place: u32, count: u32, stepped: Answer) {
     let decline = stepped.decline;
-    put_first(to, place)?;
-    put(to, count as u64)?;
-    put(to, decline.number() as u64)?;
-    put_flag(to, stepped.event)
+    put_first(to, place);
+    put(to, count as u64);
+    put(to, decline.number() as u64);
+    put_flag(to, stepped.event);
 }
 
 // A whole read from a state, and the turn of its place after it.
@@ -79,13 +77,12 @@ fn put_read(
     first: &mut [u32],
     second: &mut [u32],
     place: u32,
-) -> io::Result<()> {
+) {
     let g = sign.geometry;
     let read = read_at(g, d, one, two, address_of(g, place));
-    put_read_answer(to, place, read)?;
+    put_read_answer(to, place, read);
     let device = read.device;
-    put_cuts_and_turn(to, sign, device, one, two, image, first, second, place)?;
-    Ok(())
+    put_cuts_and_turn(to, sign, device, one, two, image, first, second, place);
 }
 
 // The line of a place's list with the whole read.
@@ -98,12 +95,12 @@ fn put_read_list(
     first: &mut [u32],
     second: &mut [u32],
     place: u32,
-) -> io::Result<()>
+)
     requires one_len_bound { (length one.old ≤ 192) × (length two.old ≤ 192) }
     requires sequence_in_bounds { (sign.sequence < length one.old) × (sign.sequence < length two.old) }
 {
     let device = run_to(sign, one, two, image, place);
-    put_read(to, sign, device, one, two, image, first, second, place)
+    put_read(to, sign, device, one, two, image, first, second, place);
 }
 
 // Single steps from a state, each but the last with the line of the list that ends after it.
@@ -117,21 +114,20 @@ fn put_inside(
     first: &mut [u32],
     second: &mut [u32],
     place: u32,
-) -> io::Result<()> {
+) {
     let mut device = d;
     let mut count = 1;
     while count < MOST_STEPS {
         let stepped = step_at(sign.geometry, device, one, two);
         device = stepped.device;
         if !has(device.nvmcon.0, Nvmcon::WR) {
-            return Ok(());
+            return;
         }
-        put_step_answer(to, place, count, stepped)?;
-        put_cuts(to, sign, device, one, two, image, first, second)?;
-        end_line(to)?;
+        put_step_answer(to, place, count, stepped);
+        put_cuts(to, sign, device, one, two, image, first, second);
+        end_line(to);
         count += 1;
     }
-    Ok(())
 }
 
 // The lines of a place's lists that end inside the read.
@@ -144,12 +140,12 @@ fn put_inside_lists(
     first: &mut [u32],
     second: &mut [u32],
     place: u32,
-) -> io::Result<()>
+)
     requires one_len_bound { (length one.old ≤ 192) × (length two.old ≤ 192) }
     requires sequence_in_bounds { (sign.sequence < length one.old) × (sign.sequence < length two.old) }
 {
     let device = run_to(sign, one, two, image, place);
-    put_inside(to, sign, device, one, two, image, first, second, place)
+    put_inside(to, sign, device, one, two, image, first, second, place);
 }
 
 // The lines of a place.
@@ -162,12 +158,12 @@ fn put_list(
     first: &mut [u32],
     second: &mut [u32],
     place: u32,
-) -> io::Result<()>
+)
     requires one_len_bound { (length one.old ≤ 192) × (length two.old ≤ 192) }
     requires sequence_in_bounds { (sign.sequence < length one.old) × (sign.sequence < length two.old) }
 {
-    put_read_list(to, sign, one, two, image, first, second, place)?;
-    put_inside_lists(to, sign, one, two, image, first, second, place)
+    put_read_list(to, sign, one, two, image, first, second, place);
+    put_inside_lists(to, sign, one, two, image, first, second, place);
 }
 
 // The lines of all places. The image is filled.
@@ -180,14 +176,14 @@ pub fn put_lists(
     first: &mut [u32],
     second: &mut [u32],
     total: u32,
-) -> io::Result<()>
+)
     requires one_len_bound { (length one.old ≤ 192) × (length two.old ≤ 192) }
     requires sequence_in_bounds { (sign.sequence < length one.old) × (sign.sequence < length two.old) }
 {
     let mut place = 0;
     while place < total {
-        put_list(to, sign, one, two, image, first, second, place)?;
+        put_list(to, sign, one, two, image, first, second, place);
         place += 1;
     }
-    put_list(to, sign, one, two, image, first, second, total)
+    put_list(to, sign, one, two, image, first, second, total);
 }

@@ -1,8 +1,7 @@
 // What a call changed in the banks. A flash read that waits may change a whole region, so changes are not held anywhere:
-// they are counted, and then each is put.
+// they are counted, and then each is put. A failed write is ignored, as a failed read is the end of the input.
 // What asks for room is no call of the device: its callers show it.
-// An error is that of a write that failed, and no other: nothing is put after it, and the lists keep their lengths.
-ghost use Rattle.std.specs.Prelude.{◌≤◌, length, IfOk, ◌≡◌, OnErr};
+ghost use Rattle.std.specs.Prelude.{◌≤◌, length};
 ghost use Rattle.conformance_io.specs.Changes.{Room};
 ghost use Rattle.conformance_io.specs.Output.{Used};
 
@@ -10,7 +9,6 @@ use crate::answer::Answer;
 use crate::differences::next_difference;
 use crate::output::{put_end, put_next, put_numbers, wide};
 use conformance_lists::lists::take_list;
-use std::io;
 use std::io::Stdout;
 
 // How many words of a bank differ from those before.
@@ -35,21 +33,20 @@ fn put_bank(
     bank: u64,
     words: &[u32],
     before: &[u32],
-) -> io::Result<usize>
+) -> usize
     requires used { Used out.old used }
     requires room { Room words.now before.now }
-    ensures ok { IfOk result (Used out.new) }
-    ensures err { OnErr result (length out.new ≡ length out.old) }
+    ensures { Used out.new result }
 {
     let mut end = used;
     let mut at = next_difference(words, before, 0);
     while at < words.len() {
-        end = put_next(to, out, end, bank)?;
-        end = put_next(to, out, end, at as u64)?;
-        end = put_next(to, out, end, wide(words[at]))?;
+        end = put_next(to, out, end, bank);
+        end = put_next(to, out, end, at as u64);
+        end = put_next(to, out, end, wide(words[at]));
         at = next_difference(words, before, at + 1);
     }
-    Ok(end)
+    end
 }
 
 // How many words changed in both banks. Their lists are read again, and show each bank as it was before the call.
@@ -73,17 +70,16 @@ fn put_changes(
     one: &[u32],
     two: &[u32],
     spare: &mut [u32],
-) -> io::Result<usize>
+) -> usize
     requires used { Used out.old used }
     requires room { Room one.now spare.old }
     requires room_2 { Room two.now spare.old }
-    ensures ok { IfOk result (Used out.new) }
-    ensures err { OnErr result ((length out.new ≡ length out.old) × (length spare.new ≡ length spare.old)) }
+    ensures { Used out.new result }
 {
     let count = count_all(line, at, one, two, spare);
-    let counted = put_next(to, out, used, count as u64)?;
+    let counted = put_next(to, out, used, count as u64);
     let first = take_list(line, at, spare, spare.len());
-    let end = put_bank(to, out, counted, 1, one, spare)?;
+    let end = put_bank(to, out, counted, 1, one, spare);
     take_list(line, first.next, spare, spare.len());
     put_bank(to, out, end, 2, two, spare)
 }
@@ -100,19 +96,18 @@ pub fn put_given(
     one: &[u32],
     two: &[u32],
     spare: &mut [u32],
-) -> io::Result<usize>
+) -> usize
     requires used { Used out.old used }
     requires count_bound { answer.count ≤ 26 }
     requires room { Room one.now spare.old }
     requires room_2 { Room two.now spare.old }
-    ensures ok { IfOk result (Used out.new) }
-    ensures err { OnErr result ((length out.new ≡ length out.old) × (length spare.new ≡ length spare.old)) }
+    ensures { Used out.new result }
 {
     let has_changes = answer.has_changes;
-    let numbers = put_numbers(to, out, used, answer)?;
+    let numbers = put_numbers(to, out, used, answer);
     if !has_changes {
         return put_end(to, out, numbers);
     }
-    let changes = put_changes(to, out, numbers, line, at, one, two, spare)?;
+    let changes = put_changes(to, out, numbers, line, at, one, two, spare);
     put_end(to, out, changes)
 }

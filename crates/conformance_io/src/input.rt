@@ -1,19 +1,16 @@
-// Standard input, in a buffer whose first bytes are held.
+// Standard input, in a buffer whose first bytes are held. A failed read is the end of the input, as a failed write is
+// ignored.
 // What asks for bytes within the buffer is no call of the device: its callers show it.
-// An error is that of a read that failed, and no other: the buffer keeps its length.
-ghost use Rattle.std.specs.Prelude.{◌≤◌, length, IfOk, ◌≡◌, OnErr};
+ghost use Rattle.std.specs.Prelude.{◌≤◌, length};
 
-use std::io;
 use std::io::{Read, Stdin};
 
 // Reads once after the held bytes; gives how many are held then, no more than before at the end of the input.
-pub fn fill(mut from: Stdin, buffer: &mut [u8], held: usize) -> io::Result<usize>
+pub fn fill(mut from: Stdin, buffer: &mut [u8], held: usize) -> usize
     requires { held ≤ length buffer.old }
-    ensures ok { IfOk result (λ filled. (held ≤ filled) × (filled ≤ length buffer.new)) }
-    ensures err { OnErr result (length buffer.new ≡ length buffer.old) }
+    ensures { (held ≤ result) × (result ≤ length buffer.new) }
 {
-    let got = from.read(&mut buffer[held..])?;
-    Ok(held + got)
+    held + from.read(&mut buffer[held..]).unwrap_or(0)
 }
 
 // Moves the bytes from start to end to the front; gives how many there are.

@@ -1,14 +1,11 @@
 // Plays service scripts for the tests. Each stands after its length in four bytes, little-endian; after what is printed
-// for it stands a line of one hyphen.
-// Where a read or a write fails, the program ends with its error, and has no other: no script is played after it. The
-// buffers keep their lengths then, and nothing more is said of what they hold.
+// for it stands a line of one hyphen. A failed write is ignored, as a failed read is the end of the input.
 #![tactic(auto)]
 
-ghost use Rattle.std.specs.Prelude.{◌+◌, ◌≤◌, ◌<◌, length, IfOk, ◌≡◌, OnErr};
+ghost use Rattle.std.specs.Prelude.{◌+◌, ◌≤◌, ◌<◌, length};
 ghost use Rattle.script_program.specs.Program.{output_room};
 
 use script_program::{OUTPUT, print};
-use std::io;
 use std::io::{Read, Stdin, Stdout};
 
 const INPUT: usize = 1048576;
@@ -29,16 +26,16 @@ fn length_at(input: &[u8], at: usize) -> usize
 }
 
 // Plays one script; the buffer has room for every output.
-fn play_one(to: Stdout, script: &[u8], out: &mut [u8]) -> io::Result<()>
+fn play_one(to: Stdout, script: &[u8], out: &mut [u8])
     requires { output_room ≤ length out.old }
 {
     let bytes = print(script, out);
-    to.write_all(&out[..bytes])?;
-    to.write_all(b"-\n")
+    let _ = to.write_all(&out[..bytes]);
+    let _ = to.write_all(b"-\n");
 }
 
 // Plays every script that is there whole.
-fn play_all(to: Stdout, input: &[u8], out: &mut [u8]) -> io::Result<()>
+fn play_all(to: Stdout, input: &[u8], out: &mut [u8])
     requires { output_room ≤ length out.old }
 {
     let mut at = 0;
@@ -46,45 +43,43 @@ fn play_all(to: Stdout, input: &[u8], out: &mut [u8]) -> io::Result<()>
         let start = at + 4;
         let count = length_at(input, at);
         if input.len() - start < count {
-            return Ok(());
+            return;
         }
         let end = start + count;
-        play_one(to, &input[start..end], out)?;
+        play_one(to, &input[start..end], out);
         at = end;
     }
-    Ok(())
 }
 
-// Reads until the buffer is full or the input ends; gives how many bytes are read.
-fn read_full(mut from: Stdin, input: &mut [u8]) -> io::Result<usize>
-    ensures ok { IfOk result (λ count. count ≤ length input.new) }
-    ensures err { OnErr result (length input.new ≡ length input.old) }
+// Reads until the buffer is full, the input ends or a read fails; gives how many bytes are read.
+fn read_full(mut from: Stdin, input: &mut [u8]) -> usize
+    ensures { result ≤ length input.new }
 {
     let mut count = 0;
     while count < input.len() {
-        let got = from.read(&mut input[count..])?;
+        let got = from.read(&mut input[count..]).unwrap_or(0);
         if got == 0 {
             break;
         }
         count += got;
     }
-    Ok(count)
+    count
 }
 
-fn play_input(rt: &HostRuntime, input: &mut [u8], out: &mut [u8]) -> io::Result<()>
+fn play_input(rt: &HostRuntime, input: &mut [u8], out: &mut [u8])
     requires { output_room ≤ length out.old }
 {
-    let count = read_full(rt.stdin(), input)?;
-    play_all(rt.stdout(), &input[..count], out)
+    let count = read_full(rt.stdin(), input);
+    play_all(rt.stdout(), &input[..count], out);
 }
 
 // Lends the arrays as slices. In main itself their lengths would have to be counted out element by element.
-fn run(rt: &HostRuntime, input: &mut [u8; INPUT], out: &mut [u8; OUTPUT]) -> io::Result<()> {
-    play_input(rt, input, out)
+fn run(rt: &HostRuntime, input: &mut [u8; INPUT], out: &mut [u8; OUTPUT]) {
+    play_input(rt, input, out);
 }
 
-fn main(rt: HostRuntime) -> io::Result<()> {
+fn main(rt: HostRuntime) {
     let mut input = [0u8; INPUT];
     let mut out = [0u8; OUTPUT];
-    run(&rt, &mut input, &mut out)
+    run(&rt, &mut input, &mut out);
 }
