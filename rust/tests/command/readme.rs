@@ -1,6 +1,5 @@
 //! README's examples of the command print what README says.
 
-use std::os::unix::fs::symlink;
 use std::path::{Path, PathBuf};
 use std::process::Command;
 use std::{env, fs};
@@ -26,17 +25,17 @@ fn examples(text: &str) -> Vec<(String, String)> {
     examples
 }
 
-/// A folder for the files that the examples write, in which the repository's crates are seen.
+/// The file of the repository's crates that the examples read.
+const READ: &str = "crates/play/stdin";
+
+/// A folder for the files that the examples write, with a copy of the one that they read: `rt ci` refuses a link.
 fn scratch() -> PathBuf {
     let folder = Path::new(env!("CARGO_TARGET_TMPDIR")).join("readme");
-    fs::create_dir_all(&folder).expect("a folder");
-    let (crates, link) = (
-        concat!(env!("CARGO_MANIFEST_DIR"), "/../crates"),
-        folder.join("crates"),
-    );
-    if !link.exists() {
-        symlink(crates, link).expect("a link");
-    }
+    let copy = folder.join(READ);
+    let _ = fs::remove_dir_all(&folder);
+    fs::create_dir_all(copy.parent().expect("a folder")).expect("a folder");
+    let file = Path::new(concat!(env!("CARGO_MANIFEST_DIR"), "/..")).join(READ);
+    fs::copy(file, copy).expect("a copy");
     folder
 }
 
