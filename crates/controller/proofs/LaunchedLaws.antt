@@ -18,7 +18,7 @@ use Rattle.geometry.specs.declared.banks.Geometry.{Geometry}
 use Rattle.sequence.specs.declared.comparison.Reason.{Reason}
 use Rattle.device.specs.declared.record.Device.{Device}
 use Rattle.device.specs.declared.record.Operands.{Operands}
-use Rattle.register_access.specs.declared.RegisterRead.{RegisterRead}
+use Rattle.register_access.specs.RegisterRead.{RegisterRead}
 use Rattle.device.specs.Registers.{WR, WRERR, BFSWAP, NVMERS, resets}
 use Rattle.device.specs.Numbers.{NVMCON, NVMPWP, NVMBWP, NVMCON2}
 use Rattle.device.specs.Builders.{power_on, with_con, with_stored, with_launched, with_operands}

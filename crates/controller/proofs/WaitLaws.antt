@@ -17,7 +17,7 @@ use Rattle.geometry.specs.Banks.{in_range_of}
 use Rattle.geometry.proofs.SizeLaws.{in-range}
 use Rattle.map.specs.Windows.{locate_of}
 use Rattle.device.specs.declared.record.Device.{Device}
-use Rattle.device.specs.declared.answer.Answer.{Answer}
+use Rattle.device.specs.Answer.{Answer}
 use Rattle.device.specs.Registers.{WR, WRERR}
 use Rattle.device.specs.Builders.{with_con}
 use Rattle.device.specs.Record.{running, bfswap, pfswap, op_of}

@@ -21,7 +21,7 @@ use Rattle.geometry.specs.Lent.{most_sram, lengths_fit_of, lent_decline_up_to}
 use Rattle.geometry.proofs.SizeLaws.{in-range}
 use Rattle.map.specs.Windows.{locate_of}
 use Rattle.device.specs.declared.record.Device.{Device}
-use Rattle.device.specs.declared.answer.Answer.{Answer}
+use Rattle.device.specs.Answer.{Answer}
 use Rattle.device.specs.Registers.{WR, WRERR}
 use Rattle.device.specs.Builders.{with_con}
 use Rattle.device.specs.Record.{running, op_of}

@@ -4,7 +4,7 @@ use Rattle.words.specs.Decline.{Verdict}
 use Rattle.std.specs.Borrow.{Bor}
 use Rattle.words.specs.Word.{pick}
 use Rattle.device.specs.declared.record.Device.{Device}
-use Rattle.device.specs.declared.answer.Answer.{Answer}
+use Rattle.device.specs.Answer.{Answer}
 
 -- the device, bank 1 and bank 2
 pub record State : Type 0 where

@@ -15,7 +15,7 @@ use Rattle.geometry.specs.Banks.{InRange}
 use Rattle.words.specs.Decline.{accepted_of}
 use Rattle.words.proofs.DeclineLaws.{held, neither}
 use Rattle.device.specs.declared.record.Device.{Device}
-use Rattle.device.specs.declared.answer.Answer.{Answer}
+use Rattle.device.specs.Answer.{Answer}
 use Rattle.device.specs.Registers.{WRERR, LVDERR}
 use Rattle.device.specs.Record.{running, op_of}
 use Rattle.nvmop.specs.Operation.{launched_begins_of, length_of}

@@ -21,7 +21,7 @@ use Rattle.device.proofs.ByNumber.{known_by_numbers}
 use Rattle.common_declines.specs.CommonDecline.{common_decline_of, Usable, CommonDeclines}
 use Rattle.common_declines.proofs.DeclineLaws.{usable, used, common_first, common_fixes}
 use Rattle.register_fields.specs.Fields.{key_after_read_of}
-use Rattle.register_access.specs.declared.RegisterRead.{RegisterRead}
+use Rattle.register_access.specs.RegisterRead.{RegisterRead}
 use Rattle.register_access.specs.Store.{read_decline_of, register_read_of}
 use Rattle.register_access.specs.ReadSentences.{RegisterReadSentences, RegisterReadsFixed}
 

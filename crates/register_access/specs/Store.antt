@@ -5,8 +5,8 @@ use Rattle.geometry.specs.declared.banks.Geometry.{Geometry}
 use Rattle.words.specs.declared.decline.Decline.{Decline}
 use Rattle.words.specs.Decline.{Verdict, accepted_of, first_of}
 use Rattle.device.specs.declared.record.Device.{Device}
-use Rattle.device.specs.declared.answer.Answer.{Answer}
-use Rattle.register_access.specs.declared.RegisterRead.{RegisterRead}
+use Rattle.device.specs.Answer.{Answer}
+use Rattle.register_access.specs.RegisterRead.{RegisterRead}
 use Rattle.device.specs.Builders.{with_con, with_stored, with_launched}
 use Rattle.device.specs.Record.{register_of, running}
 use Rattle.common_declines.specs.CommonDecline.{common_decline_of}

@@ -23,7 +23,7 @@ use Rattle.device.specs.Record.{running}
 use Rattle.common_declines.specs.Possible.{possible_of}
 use Rattle.common_declines.specs.CommonDecline.{common_decline_of}
 use Rattle.common_declines.proofs.CommonDeclineLaws.{opens}
-use Rattle.device.specs.declared.answer.Answer.{Answer}
+use Rattle.device.specs.Answer.{Answer}
 use Rattle.register_access.specs.Store.{has_form_of, may_store_of, store_decline_of, store_accepted_of, store_of}
 use Rattle.flash.specs.Step.{step_decline_of, step_of}
 use Rattle.resets.specs.Reset.{reset_decline_of, Explained, explained_of, reset_of}

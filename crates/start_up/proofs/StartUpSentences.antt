@@ -15,7 +15,7 @@ use Rattle.device.specs.declared.record.Device.{Device}
 use Rattle.device.specs.Record.{register_of, running, bfswap}
 use Rattle.common_declines.specs.CommonDecline.{common_decline_of, Usable, CommonDeclines}
 use Rattle.common_declines.proofs.DeclineLaws.{usable, used, common_first, common_fixes}
-use Rattle.start_up.specs.declared.StartedUp.{StartedUp}
+use Rattle.start_up.specs.StartedUp.{StartedUp}
 use Rattle.start_up.specs.StartUp.{start_up_stores, start_up_decline_of, start_up_of}
 use Rattle.start_up.specs.StartUpSentences.{stored_to, swapped, StartUpSentences, StartUpsFixed}
 

@@ -5,7 +5,7 @@ use Rattle.geometry.specs.declared.banks.Geometry.{Geometry}
 use Rattle.words.specs.declared.decline.Decline.{Decline}
 use Rattle.words.specs.Decline.{Verdict, accepted_of, first_of}
 use Rattle.device.specs.declared.record.Device.{Device}
-use Rattle.start_up.specs.declared.StartedUp.{StartedUp}
+use Rattle.start_up.specs.StartedUp.{StartedUp}
 use Rattle.device.specs.Record.{running, bfswap}
 use Rattle.common_declines.specs.CommonDecline.{common_decline_of}
 use Rattle.register_access.specs.Store.{store_of}

@@ -30,7 +30,7 @@ use Rattle.common_declines.specs.CommonDecline.{common_decline_of, Usable, Commo
 use Rattle.common_declines.proofs.DeclineLaws.{usable, used, common_first, common_fixes}
 use Rattle.reads.proofs.StepsLaws.{same_equal, equal_same}
 use Rattle.resets.specs.Reset.{compared_of}
-use Rattle.update.specs.declared.start.Started.{Started}
+use Rattle.update.specs.Answers.{Started}
 use Rattle.update.specs.Actions.{total_of}
 use Rattle.update.specs.Start.{lower_word_of, other_word_of, clash_of, lower_valid_of, reset_keeps_of, swaps_agree_of, other_safe_of, sequence_allows_of}
 use Rattle.update.specs.Start.{next_exists_of, upper_free_of, start_decline_of, start_of}

@@ -23,7 +23,7 @@ use Rattle.device.specs.declared.record.Device.{Device}
 use Rattle.device.specs.Record.{running}
 use Rattle.common_declines.specs.CommonDecline.{common_decline_of}
 use Rattle.common_declines.proofs.CommonDeclineLaws.{Ready, ready, opens}
-use Rattle.device.specs.declared.answer.Answer.{Answer}
+use Rattle.device.specs.Answer.{Answer}
 use Rattle.register_access.specs.Store.{may_store_of, store_accepted_of, store_of}
 use Rattle.register_access.proofs.AcceptedLaws.{store_carried}
 use Rattle.flash.specs.Step.{step_of}

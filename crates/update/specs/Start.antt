@@ -17,7 +17,7 @@ use Rattle.reads.specs.Read.{same}
 use Rattle.resets.specs.Reset.{compared_of}
 use Rattle.bank_parts.specs.Parts.{lower_of}
 use Rattle.device.specs.State.{State}
-use Rattle.update.specs.declared.start.Started.{Started}
+use Rattle.update.specs.Answers.{Started}
 use Rattle.update.specs.Actions.{total_of}
 
 -- the sequence word of the lower-alias bank, whose low half is t, and that of the other bank

@@ -11,8 +11,7 @@ use Rattle.register_access.specs.Store.{has_form_of, may_store_of, store_of}
 use Rattle.flash.specs.Step.{step_of}
 use Rattle.device.specs.State.{State, After, answered_of, state}
 use Rattle.flash.specs.Write.{written_of}
-use Rattle.update.specs.declared.turn.Turned.{Turned}
-use Rattle.update.specs.declared.turn.TurnEffect.{TurnEffect}
+use Rattle.update.specs.Answers.{Turned, TurnEffect}
 use Rattle.update.specs.declared.actions.Action.{Action}
 use Rattle.update.specs.declared.actions.Action.TheVariants.{Store, Step}
 use Rattle.update.specs.Actions.{action_at_of, total_of}

@@ -5,7 +5,7 @@ use Rattle.words.specs.declared.decline.Decline.{Decline}
 use Rattle.words.specs.Decline.{accepted_of}
 use Rattle.geometry.specs.declared.banks.Geometry.{Geometry}
 use Rattle.device.specs.State.{State}
-use Rattle.update.specs.declared.start.Started.{Started}
+use Rattle.update.specs.Answers.{Started}
 use Rattle.update.specs.Actions.{total_of}
 use Rattle.update.specs.Start.{start_of}
 use Rattle.script_write.specs.Script.{script_bytes_of, write_script_decline_of}
