@@ -54,7 +54,7 @@ declined g lengths sram high = rw (refused (in_range_of g) refl)
 same_answers : (g : Geometry) (lengths : List ℕ) (sram : ℕ) → g.p ≤ most_before → lent_decline_of g lengths sram ≡ lent_decline_up_to most_before g lengths sram
 unfolding lent_decline_up_to
 same_answers g lengths sram h =
-    ap (λ (b : Bool). pick b (pick (lengths_fit_of g lengths sram) (Ok tt) (Err (Err Decline.Length))) (Err (Err Decline.Geometry))) (same_range g h)
+    ap (λ (b : Bool). pick b (pick (lengths_fit_of g lengths sram) (Ok tt) (Err Decline.Length)) (Err Decline.Geometry)) (same_range g h)
 
 pub larger_banks : LargerBanks
 larger_banks =

@@ -36,7 +36,7 @@ pub record Fit (g : Geometry) (lengths : List ℕ) (sram : ℕ) : Type 0 where
 -- declines 1 and 2 where P is at most `most`, by the lengths of the banks and the image, and of the SRAM, which is 0 where none is lent
 unfoldable pub lent_decline_up_to : ℕ → Geometry → List ℕ → ℕ → Verdict
 lent_decline_up_to most g lengths sram =
-    pick (in_range_up_to most g) (pick (lengths_fit_of g lengths sram) (Ok tt) (Err (Err Decline.Length))) (Err (Err Decline.Geometry))
+    pick (in_range_up_to most g) (pick (lengths_fit_of g lengths sram) (Ok tt) (Err Decline.Length)) (Err Decline.Geometry)
 
 abbrev pub lent_decline_of : Geometry → List ℕ → ℕ → Verdict
 lent_decline_of g lengths sram = lent_decline_up_to most_program_pages g lengths sram
