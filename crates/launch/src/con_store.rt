@@ -32,7 +32,7 @@ pub fn con_store(g: Geometry, d: Device, w: u32) -> Launched
     ensures { result ≡ con_store_of g d w }
 {
     let mut taken = d;
-    let nvmcon = Nvmcon::new(merge(con_takes(d), w, d.nvmcon.0));
+    let nvmcon = Nvmcon(merge(con_takes(d), w, d.nvmcon.0));
     taken.nvmcon = nvmcon;
     if launches(d, w) {
         return launch(g, taken);

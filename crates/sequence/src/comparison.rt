@@ -4,7 +4,7 @@ ghost use Rattle.sequence.specs.Comparison.{reason_number_of, compare_of};
 
 use crate::{is_valid, tseq};
 
-#[derive(Clone, Copy)]
+#[derive(Clone, Copy, PartialEq, Eq, Debug)]
 pub enum Reason {
     // 0: both words are valid, and the higher T goes lower.
     Higher,
@@ -34,7 +34,7 @@ impl Reason {
 }
 
 // Whether bank 2 goes lower, as a reset then sets BFSWAP, and why.
-#[derive(Clone, Copy)]
+#[derive(Clone, Copy, PartialEq, Eq, Debug)]
 pub struct Comparison {
     pub second: bool,
     pub reason: Reason,
@@ -45,26 +45,27 @@ pub struct Comparison {
 pub fn compare(first: u32, other: u32) -> Comparison
     ensures { result ≡ compare_of first other }
 {
-    if !is_valid(first) {
-        if is_valid(other) {
-            return Comparison {
-                second: true,
-                reason: Reason::OnlyOneValid,
-            };
-        }
-        return Comparison {
-            second: false,
-            reason: Reason::NoneValid,
-        };
-    }
-    if !is_valid(other) {
-        return Comparison {
+    match (is_valid(first), is_valid(other)) {
+        (true, true) => compare_valid(tseq(first), tseq(other)),
+        (true, false) => Comparison {
             second: false,
             reason: Reason::OnlyOneValid,
-        };
+        },
+        (false, true) => Comparison {
+            second: true,
+            reason: Reason::OnlyOneValid,
+        },
+        (false, false) => Comparison {
+            second: false,
+            reason: Reason::NoneValid,
+        },
     }
-    let t = tseq(first);
-    let u = tseq(other);
+}
+
+// The comparison of two valid words by their T.
+fn compare_valid(t: u32, u: u32) -> Comparison
+    ensures { result ≡ compare_valid_of t u }
+{
     if t == u {
         return Comparison {
             second: false,
