@@ -1,6 +1,6 @@
 // The comparison of two sequence words: which bank a reset puts lower, and why.
 ghost use Rattle.std.specs.Prelude.{◌≡◌};
-ghost use Rattle.sequence.specs.Comparison.{reason_number_of, compare_of};
+ghost use Rattle.sequence.specs.Comparison.{reason_number_of, reason_from, comparison_from, compare_of};
 
 use crate::{is_valid, tseq};
 
@@ -14,21 +14,18 @@ pub enum Reason {
     OnlyOneValid,
     // 3: none is valid, and bank 1 goes lower.
     NoneValid,
-    // 4: nothing was compared: a reset that is declined.
-    NotCompared,
 }
 
 impl Reason {
     // The number of a reason: ours, the paper gives none.
     pub fn number(self) -> u32
-        ensures { result ≡ reason_number_of self }
+        ensures { result ≡ reason_number_of (reason_from self) }
     {
         match self {
             Reason::Higher => 0,
             Reason::Equal => 1,
             Reason::OnlyOneValid => 2,
             Reason::NoneValid => 3,
-            Reason::NotCompared => 4,
         }
     }
 }
@@ -43,10 +40,19 @@ pub struct Comparison {
 // The comparison of the sequence words of bank 1 and bank 2.
 #[tactic(auto, unfolding(crate::specs::Comparison::compare_of))]
 pub fn compare(first: u32, other: u32) -> Comparison
-    ensures { result ≡ compare_of first other }
+    ensures { comparison_from result ≡ compare_of first other }
 {
+    let t = tseq(first);
+    let u = tseq(other);
     match (is_valid(first), is_valid(other)) {
-        (true, true) => compare_valid(tseq(first), tseq(other)),
+        (true, true) if t == u => Comparison {
+            second: false,
+            reason: Reason::Equal,
+        },
+        (true, true) => Comparison {
+            second: t < u,
+            reason: Reason::Higher,
+        },
         (true, false) => Comparison {
             second: false,
             reason: Reason::OnlyOneValid,
@@ -59,21 +65,5 @@ pub fn compare(first: u32, other: u32) -> Comparison
             second: false,
             reason: Reason::NoneValid,
         },
-    }
-}
-
-// The comparison of two valid words by their T.
-fn compare_valid(t: u32, u: u32) -> Comparison
-    ensures { result ≡ compare_valid_of t u }
-{
-    if t == u {
-        return Comparison {
-            second: false,
-            reason: Reason::Equal,
-        };
-    }
-    Comparison {
-        second: t < u,
-        reason: Reason::Higher,
     }
 }
