@@ -8,7 +8,7 @@ use Rattle.device.specs.declared.record.Device.{Device}
 use Rattle.device.specs.declared.answer.Answer.{Answer}
 use Rattle.register_access.specs.declared.RegisterRead.{RegisterRead}
 use Rattle.start_up.specs.declared.StartedUp.{StartedUp}
-use Rattle.sequence.specs.declared.comparison.Comparison.{Comparison}
+use Rattle.sequence.specs.Comparison.{Comparison}
 use Rattle.sequence.specs.Comparison.{reason_number_of}
 use Rattle.device.specs.State.{After, state}
 use Rattle.resets.specs.Reset.{Explained}
