@@ -1,7 +1,6 @@
 // Decline 3: whether a device record is possible.
 // What asks for InRange here is no call of the device: its callers ask in_range first.
 ghost use Rattle.std.specs.Prelude.{◌≡◌};
-ghost use Rattle.geometry.specs.Banks.{InRange};
 ghost use Rattle.words.specs.Word.{pick};
 ghost use Rattle.device.specs.Record.{running};
 ghost use Rattle.common_declines.specs.Possible.{implemented_of, launched_fits_of, nothing_launched_of, running_of, resting_of, possible_of};
@@ -10,7 +9,7 @@ use device::record::{Device, register};
 use device::registers::{
     NVMADDR, NVMDATA0, NVMDATA1, NVMDATA2, NVMDATA3, NVMSRCADDR, Nvmbwp, Nvmcon, is_within,
 };
-use geometry::banks::Geometry;
+use geometry::layout::Layout;
 use nvmop::{launched_begins, length, op};
 use words::word::has;
 
@@ -64,25 +63,23 @@ fn is_resting(d: Device) -> bool
 
 // Whether an operation that runs can have been launched so.
 #[tactic(auto, unfolding(crate::specs::Possible::running_of))]
-fn is_running(g: Geometry, d: Device) -> bool
-    requires { InRange g }
-    ensures { result ≡ running_of g d }
+fn is_running(layout: Layout, d: Device) -> bool
+    ensures { result ≡ running_of layout.geometry d }
 {
     d.keystep == 0
         && has(d.nvmcon.0, Nvmcon::WRERR)
         && !has(d.nvmcon.0, Nvmcon::LVDERR)
-        && launched_begins(g, d)
-        && d.step < length(g, op(d))
+        && launched_begins(layout, d)
+        && d.step < length(layout, op(d))
 }
 
 // Whether the operation, or that there is none, fits the rest of the device.
 #[tactic(auto, unfolding(crate::specs::Possible::possible_of))]
-fn is_running_or_resting(g: Geometry, d: Device) -> bool
-    requires { InRange g }
-    ensures { result ≡ pick (running d) (running_of g d) (resting_of d) }
+fn is_running_or_resting(layout: Layout, d: Device) -> bool
+    ensures { result ≡ pick (running d) (running_of layout.geometry d) (resting_of d) }
 {
     if has(d.nvmcon.0, Nvmcon::WR) {
-        is_running(g, d)
+        is_running(layout, d)
     } else {
         is_resting(d)
     }
@@ -90,13 +87,12 @@ fn is_running_or_resting(g: Geometry, d: Device) -> bool
 
 // Whether decline 3 does not apply.
 #[tactic(auto, unfolding(crate::specs::Possible::possible_of))]
-pub fn is_possible(g: Geometry, d: Device) -> bool
-    requires { InRange g }
-    ensures { result ≡ possible_of g d }
+pub fn is_possible(layout: Layout, d: Device) -> bool
+    ensures { result ≡ possible_of layout.geometry d }
 {
     is_implemented(d)
         && launched_fits(d)
         && has(d.nvmbwp.0, Nvmbwp::ALWAYS)
         && d.keystep <= 3
-        && is_running_or_resting(g, d)
+        && is_running_or_resting(layout, d)
 }

@@ -1,9 +1,11 @@
 // Declines 1 and 2: the geometry, and the lengths of what is lent with it.
-ghost use Rattle.std.specs.Prelude.{◌≡◌};
+ghost use Rattle.std.specs.Prelude.{◌≡◌, IfOk};
+ghost use Rattle.words.specs.Decline.{verdict_from};
 ghost use Rattle.geometry.specs.Banks.{InRange};
 ghost use Rattle.geometry.specs.Lent.{lengths_of, lengths_fit_of, lent_decline_of};
 
-use crate::banks::{Geometry, bank_words, in_range};
+use crate::banks::Geometry;
+use crate::layout::Layout;
 use words::decline::Decline;
 
 pub const MOST_SRAM: usize = 16384;
@@ -19,11 +21,10 @@ pub enum Lent {
 
 // Whether decline 2 does not apply. No call of the device: lent_decline asks in_range first.
 #[tactic(auto, unfolding(crate::specs::Lent::lengths_fit_of))]
-fn lengths_fit(g: Geometry, lent: Lent, sram: usize) -> bool
-    requires { InRange g }
-    ensures { result ≡ lengths_fit_of g (lengths_of lent) sram }
+fn lengths_fit(layout: Layout, lent: Lent, sram: usize) -> bool
+    ensures { result ≡ lengths_fit_of layout.geometry (lengths_of lent) sram }
 {
-    let words = bank_words(g) as usize;
+    let words = layout.bank_words() as usize;
     let room = sram <= MOST_SRAM;
     match lent {
         Lent::Nothing => room,
@@ -37,14 +38,13 @@ fn lengths_fit(g: Geometry, lent: Lent, sram: usize) -> bool
 
 // Which of declines 1 and 2 applies to a geometry, banks and an SRAM of these lengths.
 #[tactic(auto, unfolding(crate::specs::Lent::lent_decline_up_to))]
-pub fn lent_decline(g: Geometry, lent: Lent, sram: usize) -> Result<(), Decline>
-    ensures { result ≡ lent_decline_of g (lengths_of lent) sram }
+pub fn lent_decline(g: Geometry, lent: Lent, sram: usize) -> Result<Layout, Decline>
+    ensures verdict { verdict_from result ≡ lent_decline_of g (lengths_of lent) sram }
+    ensures layout { IfOk result (λ layout. layout.geometry ≡ g) }
 {
-    if !in_range(g) {
-        return Err(Decline::Geometry);
-    }
-    if !lengths_fit(g, lent, sram) {
+    let layout = Layout::of(g).ok_or(Decline::Geometry)?;
+    if !lengths_fit(layout, lent, sram) {
         return Err(Decline::Length);
     }
-    Ok(())
+    Ok(layout)
 }

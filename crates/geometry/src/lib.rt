@@ -2,4 +2,5 @@
 #![tactic(auto)]
 
 pub mod banks;
+pub mod layout;
 pub mod lent;

@@ -1,14 +1,13 @@
 // A store to NVMCON.
 // What asks for InRange here is no call of the device: its callers ask in_range first.
 ghost use Rattle.std.specs.Prelude.{◌≡◌};
-ghost use Rattle.geometry.specs.Banks.{InRange};
 ghost use Rattle.launch.specs.ConStore.{launches_of, con_store_of};
 
 use crate::launch::{Launched, launch, nothing_launched};
 use device::builders::with_con;
 use device::record::Device;
 use device::registers::Nvmcon;
-use geometry::banks::Geometry;
+use geometry::layout::Layout;
 use register_fields::con_takes;
 use words::word::{has, merge};
 
@@ -22,13 +21,12 @@ fn launches(d: Device, w: u32) -> bool
 
 // NVMCON after a store, whether there was an event, and what is launched.
 #[tactic(auto, unfolding(crate::specs::ConStore::con_store_of))]
-pub fn con_store(g: Geometry, d: Device, w: u32) -> Launched
-    requires { InRange g }
-    ensures { result ≡ con_store_of g d w }
+pub fn con_store(layout: Layout, d: Device, w: u32) -> Launched
+    ensures { result ≡ con_store_of layout.geometry d w }
 {
     let nvmcon = merge(con_takes(d), w, d.nvmcon.0);
     if launches(d, w) {
-        launch(g, with_con(d, nvmcon, d.keystep, d.step))
+        launch(layout, with_con(d, nvmcon, d.keystep, d.step))
     } else {
         nothing_launched(d, nvmcon)
     }

@@ -1,14 +1,13 @@
 // The launch.
 // What asks for InRange here is no call of the device: its callers ask in_range first.
 ghost use Rattle.std.specs.Prelude.{◌≡◌, false};
-ghost use Rattle.geometry.specs.Banks.{InRange};
 ghost use Rattle.launch.specs.Launch.{launched, launch_of};
 
 use device::builders::operands;
 use device::numbers::{BOTH_ERASE, NO_OPERATION, QUAD_PROGRAM};
 use device::record::{Device, Operands};
 use device::registers::Nvmcon;
-use geometry::banks::Geometry;
+use geometry::layout::Layout;
 use nvmop::{begins, op};
 use words::word::{clear, has};
 
@@ -22,15 +21,14 @@ pub struct Launched {
 
 // The launch by a store whose fields the device has taken.
 #[tactic(auto, unfolding(crate::specs::Launch::launch_of))]
-pub fn launch(g: Geometry, d: Device) -> Launched
-    requires { InRange g }
-    ensures { result ≡ launch_of g d }
+pub fn launch(layout: Layout, d: Device) -> Launched
+    ensures { result ≡ launch_of layout.geometry d }
 {
     let con = d.nvmcon.0;
     match op(d) {
         NO_OPERATION => nothing_launched(d, clear(con, Nvmcon::WRERR + Nvmcon::LVDERR)),
         _ if has(con, Nvmcon::WRERR + Nvmcon::LVDERR) => nothing_launched(d, con),
-        QUAD_PROGRAM..=BOTH_ERASE if begins(g, d) => Launched {
+        QUAD_PROGRAM..=BOTH_ERASE if begins(layout, d) => Launched {
             nvmcon: con | Nvmcon::WR + Nvmcon::WRERR,
             event: false,
             operands: operands(d),

@@ -3,11 +3,10 @@
 #![tactic(auto)]
 
 ghost use Rattle.std.specs.Prelude.{◌≡◌};
-ghost use Rattle.geometry.specs.Banks.{InRange};
 ghost use Rattle.map.specs.Windows.{window_start_of, window_bytes_of, in_window_of, locate_of, page_of, word_index_of, quad_index_of, in_second_of};
 ghost use Rattle.map.specs.Location.{stands_of, location_of};
 
-use geometry::banks::{Geometry, boot_bytes, boot_quads, boot_words, page_bytes, program_bytes};
+use geometry::layout::Layout;
 
 pub const LOWER_BOOT: u32 = 0x1FC0_0000;
 
@@ -26,32 +25,29 @@ pub struct Location {
 
 impl Location {
     // The page of its kind, from 0.
-    pub fn page(self, g: Geometry) -> u32
-        requires { InRange g }
-        ensures { result ≡ page_of g (stands_of self) }
+    pub fn page(self, layout: Layout) -> u32
+        ensures { result ≡ page_of layout.geometry (stands_of self) }
     {
-        self.offset / page_bytes(g)
+        self.offset / layout.page_bytes()
     }
 
     // The index of the word in its bank.
-    pub fn word_index(self, g: Geometry) -> u32
-        requires { InRange g }
-        ensures { result ≡ word_index_of g (stands_of self) }
+    pub fn word_index(self, layout: Layout) -> u32
+        ensures { result ≡ word_index_of layout.geometry (stands_of self) }
     {
         if self.program {
-            boot_words(g) + self.offset / 4
+            layout.boot_words() + self.offset / 4
         } else {
             self.offset / 4
         }
     }
 
     // The index of the quad in its bank.
-    pub fn quad_index(self, g: Geometry) -> u32
-        requires { InRange g }
-        ensures { result ≡ quad_index_of g (stands_of self) }
+    pub fn quad_index(self, layout: Layout) -> u32
+        ensures { result ≡ quad_index_of layout.geometry (stands_of self) }
     {
         if self.program {
-            boot_quads(g) + self.offset / 16
+            layout.boot_quads() + self.offset / 16
         } else {
             self.offset / 16
         }
@@ -70,38 +66,35 @@ impl Location {
 }
 
 // The first address of a window.
-pub fn window_start(g: Geometry, program: bool, upper: bool) -> u32
-    requires { InRange g }
-    ensures { result ≡ window_start_of g program upper }
+pub fn window_start(layout: Layout, program: bool, upper: bool) -> u32
+    ensures { result ≡ window_start_of layout.geometry program upper }
 {
     match (program, upper) {
         (false, false) => LOWER_BOOT,
         (false, true) => UPPER_BOOT,
         (true, false) => LOWER_PROGRAM,
-        (true, true) => LOWER_PROGRAM + program_bytes(g),
+        (true, true) => LOWER_PROGRAM + layout.program_bytes(),
     }
 }
 
 // The length of a window in bytes.
-pub fn window_bytes(g: Geometry, program: bool) -> u32
-    requires { InRange g }
-    ensures { result ≡ window_bytes_of g program }
+pub fn window_bytes(layout: Layout, program: bool) -> u32
+    ensures { result ≡ window_bytes_of layout.geometry program }
 {
     if program {
-        program_bytes(g)
+        layout.program_bytes()
     } else {
-        boot_bytes(g)
+        layout.boot_bytes()
     }
 }
 
 // Where an address stands in one window.
 #[tactic(auto, unfolding(crate::specs::Windows::in_window_of))]
-fn in_window(g: Geometry, program: bool, upper: bool, address: u32) -> Option<Location>
-    requires { InRange g }
-    ensures { location_of result ≡ in_window_of g program upper address }
+fn in_window(layout: Layout, program: bool, upper: bool, address: u32) -> Option<Location>
+    ensures { location_of result ≡ in_window_of layout.geometry program upper address }
 {
-    let offset = address.checked_sub(window_start(g, program, upper))?;
-    if window_bytes(g, program) <= offset {
+    let offset = address.checked_sub(window_start(layout, program, upper))?;
+    if window_bytes(layout, program) <= offset {
         return None;
     }
     Some(Location {
@@ -113,12 +106,11 @@ fn in_window(g: Geometry, program: bool, upper: bool, address: u32) -> Option<Lo
 
 // Where an address stands in the four windows.
 #[tactic(auto, unfolding(crate::specs::Windows::locate_of))]
-pub fn locate(g: Geometry, address: u32) -> Option<Location>
-    requires { InRange g }
-    ensures { location_of result ≡ locate_of g address }
+pub fn locate(layout: Layout, address: u32) -> Option<Location>
+    ensures { location_of result ≡ locate_of layout.geometry address }
 {
-    in_window(g, false, false, address)
-        .or_else(|| in_window(g, false, true, address))
-        .or_else(|| in_window(g, true, false, address))
-        .or_else(|| in_window(g, true, true, address))
+    in_window(layout, false, false, address)
+        .or_else(|| in_window(layout, false, true, address))
+        .or_else(|| in_window(layout, true, false, address))
+        .or_else(|| in_window(layout, true, true, address))
 }

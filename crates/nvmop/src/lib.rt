@@ -3,7 +3,6 @@
 #![tactic(auto)]
 
 ghost use Rattle.std.specs.Prelude.{◌≡◌};
-ghost use Rattle.geometry.specs.Banks.{InRange};
 ghost use Rattle.map.specs.Location.{location_of};
 ghost use Rattle.device.specs.Record.{op_of};
 ghost use Rattle.protection.specs.Protection.{pwp_of};
@@ -13,7 +12,8 @@ use device::numbers::{
     BOTH_ERASE, LOWER_ERASE, PAGE_ERASE, QUAD_PROGRAM, ROW_PROGRAM, UPPER_ERASE,
 };
 use device::record::Device;
-use geometry::banks::{Geometry, page_bytes, round_down, row_bytes};
+use geometry::banks::round_down;
+use geometry::layout::Layout;
 use map::{Location, locate};
 use protection::{is_page_protected, pwp};
 
@@ -26,88 +26,80 @@ pub fn op(d: Device) -> u32
 
 // What NVMADDR is rounded down to: a quad, a row or a page.
 #[tactic(auto, unfolding(crate::specs::Operation::unit_of))]
-pub fn unit(g: Geometry, op: u32) -> u32
-    requires { InRange g }
-    ensures { result ≡ unit_of g op }
+pub fn unit(layout: Layout, op: u32) -> u32
+    ensures { result ≡ unit_of layout.geometry op }
 {
     match op {
         QUAD_PROGRAM => 16,
-        ROW_PROGRAM => row_bytes(g),
-        _ => page_bytes(g),
+        ROW_PROGRAM => layout.row_bytes(),
+        _ => layout.page_bytes(),
     }
 }
 
 // Where NVMOP 2, 3 and 4 begin.
 #[tactic(auto, using(crate::proofs::OperationLaws::unit_pos), unfolding(crate::specs::Operation::target_of))]
-pub fn target(g: Geometry, op: u32, address: u32) -> Option<Location>
-    requires { InRange g }
-    ensures { location_of result ≡ target_of g op address }
+pub fn target(layout: Layout, op: u32, address: u32) -> Option<Location>
+    ensures { location_of result ≡ target_of layout.geometry op address }
 {
-    locate(g, round_down(address, unit(g, op)))
+    locate(layout, round_down(address, unit(layout, op)))
 }
 
 #[tactic(auto, unfolding(crate::specs::Operation::target_begins_of))]
-fn target_begins(g: Geometry, d: Device, address: u32) -> bool
-    requires { InRange g }
-    ensures { result ≡ target_begins_of g (pwp_of d) (target_of g (op_of d) address) }
+fn target_begins(layout: Layout, d: Device, address: u32) -> bool
+    ensures { result ≡ target_begins_of layout.geometry (pwp_of d) (target_of layout.geometry (op_of d) address) }
 {
-    match target(g, op(d), address) {
-        Some(l) => !l.program || !is_page_protected(g, pwp(d), l.upper, l.page(g)),
+    match target(layout, op(d), address) {
+        Some(l) => !l.program || !is_page_protected(layout, pwp(d), l.upper, l.page(layout)),
         None => false,
     }
 }
 
 // A region has a protected page where its first page is protected.
 #[tactic(auto, using(crate::proofs::OperationLaws::region_first))]
-fn region_begins(g: Geometry, d: Device, upper: bool) -> bool
-    requires { InRange g }
-    ensures { result ≡ region_begins_of g (pwp_of d) upper }
+fn region_begins(layout: Layout, d: Device, upper: bool) -> bool
+    ensures { result ≡ region_begins_of layout.geometry (pwp_of d) upper }
 {
-    !is_page_protected(g, pwp(d), upper, 0)
+    !is_page_protected(layout, pwp(d), upper, 0)
 }
 
 // Whether the launch of the device's NVMOP at an address begins steps, by PWP.
 #[tactic(auto, unfolding(crate::specs::Operation::begins_at_of))]
-fn begins_at(g: Geometry, d: Device, address: u32) -> bool
-    requires { InRange g }
-    ensures { result ≡ begins_at_of g (op_of d) address (pwp_of d) }
+fn begins_at(layout: Layout, d: Device, address: u32) -> bool
+    ensures { result ≡ begins_at_of layout.geometry (op_of d) address (pwp_of d) }
 {
     match op(d) {
-        QUAD_PROGRAM | ROW_PROGRAM | PAGE_ERASE => target_begins(g, d, address),
-        LOWER_ERASE => region_begins(g, d, false),
-        UPPER_ERASE => region_begins(g, d, true),
+        QUAD_PROGRAM | ROW_PROGRAM | PAGE_ERASE => target_begins(layout, d, address),
+        LOWER_ERASE => region_begins(layout, d, false),
+        UPPER_ERASE => region_begins(layout, d, true),
         BOTH_ERASE => pwp(d) == 0,
         _ => false,
     }
 }
 
 // Whether a launch of the device begins steps.
-pub fn begins(g: Geometry, d: Device) -> bool
-    requires { InRange g }
-    ensures { result ≡ begins_of g d }
+pub fn begins(layout: Layout, d: Device) -> bool
+    ensures { result ≡ begins_of layout.geometry d }
 {
-    begins_at(g, d, d.nvmaddr)
+    begins_at(layout, d, d.nvmaddr)
 }
 
 // Whether it does with what the running operation was launched with.
-pub fn launched_begins(g: Geometry, d: Device) -> bool
-    requires { InRange g }
-    ensures { result ≡ launched_begins_of g d }
+pub fn launched_begins(layout: Layout, d: Device) -> bool
+    ensures { result ≡ launched_begins_of layout.geometry d }
 {
-    begins_at(g, d, d.launched.nvmaddr)
+    begins_at(layout, d, d.launched.nvmaddr)
 }
 
 // The number of steps.
 #[tactic(auto, unfolding(crate::specs::Operation::length_of))]
-pub fn length(g: Geometry, op: u32) -> u32
-    requires { InRange g }
-    ensures { result ≡ length_of g op }
+pub fn length(layout: Layout, op: u32) -> u32
+    ensures { result ≡ length_of layout.geometry op }
 {
     match op {
         QUAD_PROGRAM => 1,
-        ROW_PROGRAM => g.q,
-        PAGE_ERASE => 8 * g.q,
-        BOTH_ERASE => 2 * (8 * g.q * g.p),
-        _ => 8 * g.q * g.p,
+        ROW_PROGRAM => layout.geometry.q,
+        PAGE_ERASE => 8 * layout.geometry.q,
+        BOTH_ERASE => 2 * (8 * layout.geometry.q * layout.geometry.p),
+        _ => 8 * layout.geometry.q * layout.geometry.p,
     }
 }

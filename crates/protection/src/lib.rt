@@ -3,11 +3,10 @@
 
 ghost use Rattle.std.specs.Prelude.{◌≡◌, ◌<◌};
 ghost use Rattle.words.specs.Word.{pick};
-ghost use Rattle.geometry.specs.Banks.{InRange};
 ghost use Rattle.protection.specs.Protection.{pwp_of, program_protected_of, boot_protected_of, page_offset_of, protected_of};
 
 use device::record::Device;
-use geometry::banks::{Geometry, page_bytes, program_bytes};
+use geometry::layout::Layout;
 
 // PWP, the low 24 bits of NVMPWP.
 pub fn pwp(d: Device) -> u32
@@ -34,33 +33,30 @@ pub fn is_boot_protected(d: Device, upper: bool, page: u32) -> bool
 }
 
 // The offset of a program page from 0x1D000000.
-fn page_offset(g: Geometry, upper: bool, page: u32) -> u32
-    requires in_range { InRange g }
-    requires page_lt_p { page < g.p }
-    ensures { result ≡ page_offset_of g upper page }
+fn page_offset(layout: Layout, upper: bool, page: u32) -> u32
+    requires page_lt_p { page < layout.geometry.p }
+    ensures { result ≡ page_offset_of layout.geometry upper page }
 {
-    let start = if upper { program_bytes(g) } else { 0 };
-    start + page * page_bytes(g)
+    let start = if upper { layout.program_bytes() } else { 0 };
+    start + page * layout.page_bytes()
 }
 
 // Whether PWP protects a page of a program region. No call of the device: callers show that there is such a page.
-pub fn is_page_protected(g: Geometry, last: u32, upper: bool, page: u32) -> bool
-    requires in_range { InRange g }
-    requires page_lt_p { page < g.p }
-    ensures { result ≡ program_protected_of last (page_offset_of g upper page) }
+pub fn is_page_protected(layout: Layout, last: u32, upper: bool, page: u32) -> bool
+    requires page_lt_p { page < layout.geometry.p }
+    ensures { result ≡ program_protected_of last (page_offset_of layout.geometry upper page) }
 {
-    is_program_protected(last, page_offset(g, upper, page))
+    is_program_protected(last, page_offset(layout, upper, page))
 }
 
 // Whether a page of a window is protected. No call of the device: callers show that there is such a page.
 #[tactic(auto, unfolding(crate::specs::Protection::protected_of))]
-pub fn is_protected(g: Geometry, d: Device, program: bool, upper: bool, page: u32) -> bool
-    requires in_range { InRange g }
-    requires page_bound { page < pick program g.p g.b }
-    ensures { result ≡ protected_of g d program upper page }
+pub fn is_protected(layout: Layout, d: Device, program: bool, upper: bool, page: u32) -> bool
+    requires page_bound { page < pick program layout.geometry.p layout.geometry.b }
+    ensures { result ≡ protected_of layout.geometry d program upper page }
 {
     if program {
-        is_page_protected(g, pwp(d), upper, page)
+        is_page_protected(layout, pwp(d), upper, page)
     } else {
         is_boot_protected(d, upper, page)
     }

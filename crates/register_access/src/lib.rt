@@ -1,8 +1,8 @@
 // Stores and register reads.
 #![tactic(auto)]
 
-ghost use Rattle.std.specs.Prelude.{◌≡◌};
-ghost use Rattle.geometry.specs.Banks.{InRange};
+ghost use Rattle.std.specs.Prelude.{◌≡◌, IfOk};
+ghost use Rattle.words.specs.Decline.{verdict_from};
 ghost use Rattle.device.specs.Answer.{answer_from};
 ghost use Rattle.register_access.specs.RegisterRead.{register_read_from};
 ghost use Rattle.register_access.specs.Store.{accepted, has_form_of, may_store_of, store_decline_of, applied_of, store_accepted_of, store_of, read_decline_of, register_read_of};
@@ -17,6 +17,7 @@ use device::registers::{
     Nvmpwp,
 };
 use geometry::banks::Geometry;
+use geometry::layout::Layout;
 use geometry::lent::Lent;
 use launch::con_store::con_store;
 use register_fields::{bwp_takes, con2_takes, key_after_read, key_next, pwp_takes, wanted};
@@ -47,17 +48,18 @@ pub fn may_store(d: Device, number: u32) -> bool
 }
 
 #[tactic(auto, unfolding(crate::specs::Store::store_decline_of))]
-fn store_decline(g: Geometry, d: Device, number: u32, form: u32) -> Result<(), Decline>
-    ensures { result ≡ store_decline_of g d number form }
+fn store_decline(g: Geometry, d: Device, number: u32, form: u32) -> Result<Layout, Decline>
+    ensures verdict { verdict_from result ≡ store_decline_of g d number form }
+    ensures layout { IfOk result (λ layout. layout.geometry ≡ g) }
 {
-    common_decline(g, d, Lent::Nothing, 0)?;
+    let layout = common_decline(g, d, Lent::Nothing, 0)?;
     if !has_form(number, form) {
         return Err(Decline::Register);
     }
     if !may_store(d, number) {
         return Err(Decline::Running);
     }
-    Ok(())
+    Ok(layout)
 }
 
 // The device after a store to another register than NVMCON.
@@ -85,13 +87,12 @@ fn applied(d: Device, number: u32, w: u32) -> Device
 
 // A store that is not declined. No call of the device: its callers judge the declines first.
 #[tactic(auto, unfolding(crate::specs::Store::store_accepted_of))]
-pub fn store_accepted(g: Geometry, d: Device, number: u32, form: u32, value: u32) -> Outcome
-    requires { InRange g }
-    ensures { accepted result.device result.event ≡ store_accepted_of g d number form value }
+pub fn store_accepted(layout: Layout, d: Device, number: u32, form: u32, value: u32) -> Outcome
+    ensures { accepted result.device result.event ≡ store_accepted_of layout.geometry d number form value }
 {
     let w = wanted(form, register(d, number), value);
     if number == Nvmcon::NUMBER {
-        let l = con_store(g, d, w);
+        let l = con_store(layout, d, w);
         let operands = l.operands;
         return Outcome {
             device: with_launched(with_con(d, l.nvmcon, 0, d.step), operands),
@@ -109,8 +110,8 @@ pub fn store_accepted(g: Geometry, d: Device, number: u32, form: u32, value: u32
 pub fn store(g: Geometry, d: Device, number: u32, form: u32, value: u32) -> Result<Outcome, Decline>
     ensures { answer_from d result ≡ store_of g d number form value }
 {
-    store_decline(g, d, number, form)?;
-    Ok(store_accepted(g, d, number, form, value))
+    let layout = store_decline(g, d, number, form)?;
+    Ok(store_accepted(layout, d, number, form, value))
 }
 
 #[tactic(auto, unfolding(crate::specs::Store::read_decline_of))]

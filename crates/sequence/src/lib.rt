@@ -3,28 +3,25 @@
 #![tactic(auto)]
 
 ghost use Rattle.std.specs.Prelude.{◌≡◌, ◌<◌};
-ghost use Rattle.geometry.specs.Banks.{InRange};
 ghost use Rattle.sequence.specs.Sequence.{sequence_quad_of, sequence_index_of, tseq_of, cseq_of, complement_of, valid_of};
 ghost use Rattle.sequence.specs.Sequence.{sequence_word_of, next_sequence_of};
 
-use geometry::banks::{Geometry, boot_quads};
+use geometry::layout::Layout;
 
 pub mod comparison;
 
 // The index of the sequence quad, the last of the last boot page, in a bank.
-pub fn sequence_quad(g: Geometry) -> u32
-    requires { InRange g }
-    ensures { result ≡ sequence_quad_of g }
+pub fn sequence_quad(layout: Layout) -> u32
+    ensures { result ≡ sequence_quad_of layout.geometry }
 {
-    boot_quads(g) - 1
+    layout.boot_quads() - 1
 }
 
 // The index of the sequence word, word 0 of the sequence quad, in a bank.
-pub fn sequence_index(g: Geometry) -> u32
-    requires { InRange g }
-    ensures { result ≡ sequence_index_of g }
+pub fn sequence_index(layout: Layout) -> u32
+    ensures { result ≡ sequence_index_of layout.geometry }
 {
-    4 * sequence_quad(g)
+    4 * sequence_quad(layout)
 }
 
 // T.

@@ -11,6 +11,11 @@ use Rattle.words.specs.declared.decline.Decline.TheVariants.{ScriptBuffer, Sheet
 abbrev pub Verdict : Type 0
 Verdict = Result Unit Decline
 
+-- in contracts: the verdict of a call that answers something where it is carried out
+abbrev pub verdict_from : {A : Type 0} → Result A Decline → Verdict
+verdict_from (Ok x) = Ok tt
+verdict_from (Err e) = Err e
+
 abbrev pub number_of : Verdict → ℕ
 number_of (Ok done) = 0
 number_of (Err Geometry) = 1
