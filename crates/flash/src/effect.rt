@@ -5,8 +5,9 @@ ghost use Rattle.std.specs.Option.{is_some, unwrap_or};
 ghost use Rattle.words.specs.Word.{pick};
 ghost use Rattle.words.specs.Quad.{quad_at, blank_quad};
 ghost use Rattle.geometry.specs.Banks.{InRange, bank_words_of};
+ghost use Rattle.device.specs.Record.{bfswap, pfswap};
 ghost use Rattle.device.specs.State.{lent};
-ghost use Rattle.map.specs.Windows.{window_bytes_of, located};
+ghost use Rattle.map.specs.Windows.{window_bytes_of, located, in_second_of};
 ghost use Rattle.map.specs.Location.{stands_of};
 ghost use Rattle.flash.specs.Effect.{Runs, step_location_of, blocked_of, source_fits_of, source_word_of, effect, effect_from, effect_at_of, effect_of};
 
@@ -91,6 +92,16 @@ fn source_fits(d: Device, sram: usize) -> bool
     d.launched.nvmsrcaddr % 4 == 0 && source_word(d) + 4 <= sram
 }
 
+// Whether bank 2 stands at a place.
+pub fn second_at(d: Device, l: Location) -> bool
+    ensures { result ≡ in_second_of (stands_of l) (bfswap d) (pfswap d) }
+{
+    l.is_second(
+        has(d.nvmcon.0, Nvmcon::BFSWAP),
+        has(d.nvmcon.0, Nvmcon::PFSWAP),
+    )
+}
+
 // A quad as it is before the step.
 pub fn old_quad(one: &[u32], two: &[u32], second: bool, quad: u32) -> [u32; 4]
     requires { (4 * quad + 4 ≤ length one.now) × (4 * quad + 4 ≤ length two.now) }
@@ -142,9 +153,7 @@ pub fn next_effect(g: Geometry, d: Device, one: &[u32], two: &[u32], sram: &[u32
     ensures { effect_from result ≡ effect_of g (lent d one.entry two.entry) sram.now }
 {
     let l = step_location(g, d);
-    let bfswap = has(d.nvmcon.0, Nvmcon::BFSWAP);
-    let pfswap = has(d.nvmcon.0, Nvmcon::PFSWAP);
-    let second = l.is_second(bfswap, pfswap);
+    let second = second_at(d, l);
     let quad = l.quad_index(g);
     if is_blocked(g, d, l) {
         return doing(false, second, quad, None);
