@@ -25,18 +25,16 @@ pub fn play_record(
 ) -> Answer
     ensures { leaves result one.new two.new ≡ record_after_of g sram.now (state d one.old two.old) r }
 {
-    if r.kind == 0 {
-        return store(g, d, r.number, r.form, r.value);
-    }
-    if r.kind == 1 {
-        return step(g, d, one, two, sram);
-    }
-    let a = reset(g, d, one, two, sram, r.number, [0; 4]);
-    let decline = a.decline;
-    let device = a.device;
-    Answer {
-        decline,
-        device,
-        event: false,
+    match r.kind {
+        0 => store(g, d, r.number, r.form, r.value),
+        1 => step(g, d, one, two, sram),
+        _ => {
+            let a = reset(g, d, one, two, sram, r.number, [0; 4]);
+            Answer {
+                decline: a.decline,
+                device: a.device,
+                event: false,
+            }
+        }
     }
 }
