@@ -12,8 +12,8 @@ use Rattle.words.specs.Quad.{word_at}
 use Rattle.geometry.specs.declared.banks.Geometry.{Geometry}
 use Rattle.words.specs.Decline.{accepted_of}
 use Rattle.device.specs.declared.record.Device.{Device}
-use Rattle.device.specs.declared.answer.Answer.{Answer}
-use Rattle.register_access.specs.declared.RegisterRead.{RegisterRead}
+use Rattle.device.specs.Answer.{Answer}
+use Rattle.register_access.specs.RegisterRead.{RegisterRead}
 use Rattle.device.specs.Record.{bfswap}
 use Rattle.common_declines.specs.Possible.{possible_of}
 use Rattle.register_access.specs.Store.{store_decline_of, store_accepted_of, store_of, read_decline_of, register_read_of}

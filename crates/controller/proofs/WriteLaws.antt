@@ -22,7 +22,7 @@ use Rattle.flash.specs.declared.write.Write.{Write}
 use Rattle.flash.specs.Write.{one_after, two_after}
 use Rattle.nvmop.specs.Operation.{length_of}
 use Rattle.device.specs.declared.record.Device.{Device}
-use Rattle.device.specs.declared.answer.Answer.{Answer}
+use Rattle.device.specs.Answer.{Answer}
 use Rattle.device.specs.Builders.{with_con}
 use Rattle.device.specs.Registers.{WR, WRERR}
 use Rattle.flash.specs.Step.{ended_of, advance_of, step_effect_of, stepped_of, step_answer_of, step_of}

@@ -1,11 +1,11 @@
 -- "Resets and start-up": the tear, and the device after a reset. Assumes nothing.
-use Rattle.std.specs.Prelude.{ℕ, ◌+◌, Bool, false, ◌&&◌, List, [], ◌∷◌, eqb, ltb, length, get_or}
+use Rattle.std.specs.Prelude.{ℕ, ◌+◌, Bool, false, ◌&&◌, List, [], ◌∷◌, eqb, ltb, length, get_or, Ok, Err}
 use Rattle.std.specs.Int.Bits.{bit_or}
 use Rattle.words.specs.Word.{pick, merge_of, clear_of}
 use Rattle.words.specs.Quad.{word_at, quad_at, merge_quad_of}
 use Rattle.geometry.specs.declared.banks.Geometry.{Geometry}
 use Rattle.words.specs.declared.decline.Decline.{Decline}
-use Rattle.words.specs.Decline.{accepted_of, first_of}
+use Rattle.words.specs.Decline.{Verdict, accepted_of, first_of}
 use Rattle.sequence.specs.declared.comparison.Reason.{Reason}
 use Rattle.sequence.specs.declared.comparison.Comparison.{Comparison}
 use Rattle.sequence.specs.Sequence.{sequence_index_of}
@@ -32,8 +32,8 @@ abbrev pub other_reset : ℕ
 other_reset = 2
 
 -- declines 1, 2, 3 and 7
-unfoldable pub reset_decline_of : Geometry → Device → ℕ → ℕ → ℕ → ℕ → Decline
-reset_decline_of g d one two sram kind = first_of (common_decline_of g d (one ∷ two ∷ []) sram) (pick (ltb other_reset kind) Decline.ResetKind Decline.Accepted)
+unfoldable pub reset_decline_of : Geometry → Device → ℕ → ℕ → ℕ → ℕ → Verdict
+reset_decline_of g d one two sram kind = first_of (common_decline_of g d (one ∷ two ∷ []) sram) (pick (ltb other_reset kind) (Err Decline.ResetKind) (Ok tt))
 
 -- "the four words of the torn mask choose, bit by bit, intended (1) or old (0). A step that would abort or hit a protected page tears nothing."
 abbrev pub torn_of : State → List ℕ → Write → Write
@@ -89,10 +89,10 @@ reset_device_of d kind swap =
 
 -- "BFSWAP is compared after the tear. A reset gives no event."
 abbrev pub restart_of : Geometry → State → ℕ → After
-restart_of g s kind = after Decline.Accepted (state (reset_device_of s.device kind (compared_of g s.one s.two)) s.one s.two) false
+restart_of g s kind = after (Ok tt) (state (reset_device_of s.device kind (compared_of g s.one s.two)) s.one s.two) false
 
 -- declines 1, 2, 3 and 7 of a reset of a state with a lent SRAM
-abbrev pub reset_answer_of : Geometry → State → List ℕ → ℕ → Decline
+abbrev pub reset_answer_of : Geometry → State → List ℕ → ℕ → Verdict
 reset_answer_of g s sram kind = reset_decline_of g s.device (length s.one) (length s.two) (length sram) kind
 
 -- what a reset leaves, with the reason of its comparison beside it

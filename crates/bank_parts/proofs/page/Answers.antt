@@ -1,7 +1,6 @@
 -- An accepted request names a page that lies in the bank.
 use Rattle.std.proofs.Common.{◌≡◌, ℕ, ◌+◌, ◌*◌, ◌≤◌, Bool, true, sym, ap, ◌∙◌, rules}
-use Rattle.words.specs.declared.decline.Decline.{Decline}
-use Rattle.words.specs.Decline.{accepted_of}
+use Rattle.words.specs.Decline.{Verdict, accepted_of}
 use Rattle.geometry.specs.declared.banks.Geometry.{Geometry}
 use Rattle.geometry.specs.Banks.{InRange, page_words_of}
 use Rattle.bank_parts.specs.Parts.{page_decline_of}
@@ -9,12 +8,12 @@ use Rattle.bank_parts.proofs.AcceptedLaws.{page_lies}
 use Rattle.bank_parts.proofs.page.Goals as goal
 
 -- what the two calls and the test before tell
-lies : (g : Geometry) (words page : ℕ) (d : Decline) (t : Bool) → d ≡ page_decline_of g words page → t ≡ accepted_of d → t ≡ true
+lies : (g : Geometry) (words page : ℕ) (d : Verdict) (t : Bool) → d ≡ page_decline_of g words page → t ≡ accepted_of d → t ≡ true
     → InRange g × (page * page_words_of g + page_words_of g ≤ words)
 lies g words page d t e k h = page_lies g words page (ap accepted_of (sym e) ∙ sym k ∙ h)
 
 -- the same of the size of a page as it was computed
-room : (g : Geometry) (words page : ℕ) (d : Decline) (t : Bool) (size : ℕ) → d ≡ page_decline_of g words page → t ≡ accepted_of d → t ≡ true
+room : (g : Geometry) (words page : ℕ) (d : Verdict) (t : Bool) (size : ℕ) → d ≡ page_decline_of g words page → t ≡ accepted_of d → t ≡ true
     → size ≡ page_words_of g → page * size + size ≤ words
 room g words page d t size e k h w = rw w (lies g words page d t e k h).1
 

@@ -1,7 +1,6 @@
 -- Declined; read at once where the bank is free; and else read after the steps that remain.
 use Rattle.std.proofs.Common.{◌≡◌, ℕ, Bool, true, false, [], ◌∷◌, sym, ap, ◌∙◌, arith, rules}
-use Rattle.words.specs.declared.decline.Decline.{Decline}
-use Rattle.words.specs.Decline.{accepted_of}
+use Rattle.words.specs.Decline.{Verdict, accepted_of}
 use Rattle.geometry.specs.declared.banks.Geometry.{Geometry}
 use Rattle.map.specs.Windows.{locate_of}
 use Rattle.device.specs.declared.record.Device.{Device}
@@ -15,7 +14,7 @@ use Rattle.reads.proofs.StepsLaws.{worked_on}
 use Rattle.reads.proofs.flash_read.Goals as goal
 
 -- what the first test tells
-opened : (g : Geometry) (d : Device) (one two sram address : ℕ) (x : Decline) (t : Bool) → x ≡ flash_read_decline_of g d one two sram address
+opened : (g : Geometry) (d : Device) (one two sram address : ℕ) (x : Verdict) (t : Bool) → x ≡ flash_read_decline_of g d one two sram address
     → t ≡ accepted_of x → t ≡ true → Ready g d (one ∷ two ∷ []) sram × ((locate_of g address).inside ≡ true)
 opened g d one two sram address x t e k h = read_ready g d one two sram address (ap accepted_of (sym e) ∙ sym k ∙ h)
 
