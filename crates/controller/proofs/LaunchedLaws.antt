@@ -15,7 +15,7 @@ use Rattle.words.specs.Decline.{accepted_of}
 use Rattle.words.proofs.PickLaws.{pick_both, and_both}
 use Rattle.words.proofs.BitLaws.{true_not_false, clear_bit, has_bit}
 use Rattle.geometry.specs.declared.banks.Geometry.{Geometry}
-use Rattle.sequence.specs.declared.comparison.Reason.{Reason}
+use Rattle.sequence.specs.Comparison.{Reason}
 use Rattle.device.specs.declared.record.Device.{Device}
 use Rattle.device.specs.declared.record.Operands.{Operands}
 use Rattle.register_access.specs.RegisterRead.{RegisterRead}

@@ -29,7 +29,7 @@ use Rattle.flash.specs.Step.{ended_of, advance_of, step_effect_of, stepped_of, s
 use Rattle.flash.proofs.EffectLaws.{effect_second, effect_quad}
 use Rattle.flash.proofs.AcceptedLaws.{runs, step_ready}
 use Rattle.flash.proofs.WriteLaws.{written_length}
-use Rattle.sequence.specs.declared.comparison.Reason.{Reason}
+use Rattle.sequence.specs.Comparison.{Reason}
 use Rattle.resets.specs.Reset.{torn_of, while_running, tear_of, comparison_of, restart_of, reset_answer_of, Explained, explained, explained_of, reset_of}
 use Rattle.resets.proofs.AcceptedLaws.{reset_ready}
 use Rattle.device.specs.State.{State, bank_of, After, after}

@@ -16,7 +16,7 @@ use Rattle.register_access.specs.Store.{store_of, register_read_of}
 use Rattle.start_up.specs.StartUp.{Access, start_up_stores, start_up_of}
 use Rattle.flash.specs.Effect.{step_location_of}
 use Rattle.flash.specs.Step.{step_of}
-use Rattle.sequence.specs.declared.comparison.Reason.{Reason}
+use Rattle.sequence.specs.Comparison.{Reason}
 use Rattle.sequence.specs.Sequence.{sequence_index_of}
 use Rattle.sequence.specs.Comparison.{reason_number_of, comparison, compare_of}
 use Rattle.resets.specs.Reset.{reset_of, reset_reason_of}

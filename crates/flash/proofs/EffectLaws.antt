@@ -13,7 +13,7 @@ use Rattle.words.specs.Quad.{quad_at, is_blank_of}
 use Rattle.words.proofs.PickLaws.{pick_both, and_both}
 use Rattle.words.proofs.BitLaws.{true_not_false}
 use Rattle.geometry.specs.declared.banks.Geometry.{Geometry}
-use Rattle.map.specs.declared.Location.{Location}
+use Rattle.map.specs.Windows.{Location}
 use Rattle.geometry.specs.Banks.{InRange, bank_words_of}
 use Rattle.map.specs.Windows.{window_bytes_of, located, quad_index_of, in_second_of}
 use Rattle.geometry.proofs.SizeLaws.{Unit, quad_unit, row_unit, page_unit}

@@ -4,7 +4,7 @@ use Rattle.std.specs.Prelude.{ℕ, zero, suc, ◌-◌, ◌%◌, Bool, true, fals
 use Rattle.words.specs.Word.{pick}
 use Rattle.words.specs.Quad.{word_at}
 use Rattle.geometry.specs.declared.banks.Geometry.{Geometry}
-use Rattle.map.specs.declared.Location.{Location}
+use Rattle.map.specs.Windows.{Location}
 use Rattle.words.specs.declared.decline.Decline.{Decline}
 use Rattle.words.specs.Decline.{Verdict, accepted_of, first_of}
 use Rattle.map.specs.Windows.{locate_of, word_index_of, in_second_of}

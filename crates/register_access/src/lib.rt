@@ -93,15 +93,15 @@ fn applied(d: Device, number: u32, w: u32) -> Device
         NVMDATA3 => e.nvmdata[3] = w,
         NVMSRCADDR => e.nvmsrcaddr = w,
         Nvmpwp::NUMBER => {
-            let nvmpwp = Nvmpwp::new(merge(pwp_takes(d), w, d.nvmpwp.0));
+            let nvmpwp = Nvmpwp(merge(pwp_takes(d), w, d.nvmpwp.0));
             e.nvmpwp = nvmpwp;
         }
         Nvmbwp::NUMBER => {
-            let nvmbwp = Nvmbwp::new(merge(bwp_takes(d), w, d.nvmbwp.0));
+            let nvmbwp = Nvmbwp(merge(bwp_takes(d), w, d.nvmbwp.0));
             e.nvmbwp = nvmbwp;
         }
         Nvmcon2::NUMBER => {
-            let nvmcon2 = Nvmcon2::new(merge(con2_takes(d), w, d.nvmcon2.0));
+            let nvmcon2 = Nvmcon2(merge(con2_takes(d), w, d.nvmcon2.0));
             e.nvmcon2 = nvmcon2;
         }
         _ => {}

@@ -19,7 +19,7 @@ use Rattle.words.proofs.PickLaws.{pick_same, pick_both}
 use Rattle.words.proofs.BitLaws.{equal_by_bits}
 use Rattle.words.proofs.QuadLaws.{put_torn}
 use Rattle.geometry.specs.declared.banks.Geometry.{Geometry}
-use Rattle.sequence.specs.declared.comparison.Comparison.{Comparison}
+use Rattle.sequence.specs.Comparison.{Comparison}
 use Rattle.sequence.specs.Sequence.{sequence_index_of}
 use Rattle.sequence.specs.Comparison.{reason_number_of, comparison, compare_of}
 use Rattle.sequence.specs.Reasons.{Reasons}

@@ -6,10 +6,8 @@ use Rattle.words.specs.Quad.{word_at, quad_at, merge_quad_of}
 use Rattle.geometry.specs.declared.banks.Geometry.{Geometry}
 use Rattle.words.specs.declared.decline.Decline.{Decline}
 use Rattle.words.specs.Decline.{Verdict, accepted_of, first_of}
-use Rattle.sequence.specs.declared.comparison.Reason.{Reason}
-use Rattle.sequence.specs.declared.comparison.Comparison.{Comparison}
+use Rattle.sequence.specs.Comparison.{Reason, Comparison, compare_of}
 use Rattle.sequence.specs.Sequence.{sequence_index_of}
-use Rattle.sequence.specs.Comparison.{compare_of}
 use Rattle.device.specs.declared.record.Device.{Device}
 use Rattle.device.specs.Registers.{WR, WREN, LVDERR, PFSWAP, BFSWAP, NVMERS, resets}
 use Rattle.device.specs.Builders.{power_on, with_con}

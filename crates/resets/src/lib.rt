@@ -140,9 +140,9 @@ fn reset_device(d: Device, kind: u32, swap: bool) -> Device
         return with_con(power_on(), con, 0, 0);
     }
     let mut e = d;
-    let nvmpwp = Nvmpwp::new(reset_value(Nvmpwp::NUMBER));
-    let nvmbwp = Nvmbwp::new(reset_value(Nvmbwp::NUMBER));
-    let nvmcon2 = Nvmcon2::new(merge(Nvmcon2::NVMERS, d.nvmcon2.0, reset_value(Nvmcon2::NUMBER)));
+    let nvmpwp = Nvmpwp(reset_value(Nvmpwp::NUMBER));
+    let nvmbwp = Nvmbwp(reset_value(Nvmbwp::NUMBER));
+    let nvmcon2 = Nvmcon2(merge(Nvmcon2::NVMERS, d.nvmcon2.0, reset_value(Nvmcon2::NUMBER)));
     e.nvmpwp = nvmpwp;
     e.nvmbwp = nvmbwp;
     e.nvmcon2 = nvmcon2;

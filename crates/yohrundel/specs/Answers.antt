@@ -8,8 +8,7 @@ use Rattle.device.specs.declared.record.Device.{Device}
 use Rattle.device.specs.Answer.{Answer}
 use Rattle.register_access.specs.RegisterRead.{RegisterRead}
 use Rattle.start_up.specs.StartedUp.{StartedUp}
-use Rattle.sequence.specs.declared.comparison.Comparison.{Comparison}
-use Rattle.sequence.specs.Comparison.{reason_number_of}
+use Rattle.sequence.specs.Comparison.{Comparison, reason_number_of}
 use Rattle.device.specs.State.{After, state}
 use Rattle.resets.specs.Reset.{Explained}
 use Rattle.reads.specs.Read.{Reading}

@@ -2,7 +2,7 @@
 use Rattle.std.proofs.Common.{◌≡◌, ℕ, ◌<◌, true}
 use Rattle.geometry.specs.declared.banks.Geometry.{Geometry}
 use Rattle.geometry.specs.Banks.{InRange, bank_words_of}
-use Rattle.map.specs.declared.Location.{Location}
+use Rattle.map.specs.Windows.{Location}
 use Rattle.map.specs.Windows.{locate_of, word_index_of}
 use Rattle.map.proofs.WindowLaws.{stands, word_in_bank}
 use Rattle.reads.proofs.word_read.Goals as goal
