@@ -6,7 +6,6 @@ use Prim.Native.Nat.{ℕ, ◌≤◌}
 use lib.Dec.{eqb}
 use Rattle.words.specs.Word.{pick}
 use native.Mathlib.Omega.{arith}
-use Rattle.words.specs.declared.decline.Decline.{Decline}
 use Rattle.words.specs.declared.decline.Decline.TheVariants.{Geometry, Length, Device, Register, Running, Idle, ResetKind, Address}
 use Rattle.words.specs.declared.decline.Decline.TheVariants.{Sequence, LastSequence, Protection, Place, Script, Hours, NoWait}
 use Rattle.words.specs.declared.decline.Decline.TheVariants.{ScriptBuffer, SheetBuffer, Row, Records, NotShown, Lanes}
