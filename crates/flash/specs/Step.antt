@@ -12,7 +12,8 @@ use Rattle.device.specs.Builders.{with_con, with_launched}
 use Rattle.device.specs.Record.{running, op_of, no_operands}
 use Rattle.nvmop.specs.Operation.{length_of}
 use Rattle.common_declines.specs.CommonDecline.{common_decline_of}
-use Rattle.flash.specs.declared.step.StepEffect.{StepEffect}
+use Rattle.flash.specs.declared.write.Write.{Write}
+use Rattle.flash.specs.declared.step.StepEffect as code
 use Rattle.flash.specs.Write.{written_of}
 use Rattle.flash.specs.Effect.{effect_of}
 
@@ -33,6 +34,15 @@ advance_of g d aborts =
     pick aborts (advanced (ended_of d (clear_of d.nvmcon.0 WR)) true)
     (pick (eqb (d.step + 1) (length_of g (op_of d))) (advanced (ended_of d (clear_of d.nvmcon.0 (WR + WRERR))) true)
     (advanced (with_con d d.nvmcon.0 d.keystep (d.step + 1)) false))
+
+-- what a step answers, and what it writes
+pub record StepEffect : Type 0 where
+  pub answer : Answer
+  pub write : Write
+
+-- in contracts: of a step that is not declined
+abbrev pub step_effect_from : code.StepEffect → StepEffect
+step_effect_from e = record { answer = advanced e.outcome.device e.outcome.event; write = e.write }
 
 -- what a step that is not declined answers, and what it writes
 abbrev pub step_effect_of : Geometry → State → List ℕ → StepEffect
