@@ -1,21 +1,21 @@
 -- "A flash read gives the word at its address there"; W-207: one of the bank that is worked on first carries out the steps that remain.
 -- Assumes nothing.
-use Rattle.std.specs.Prelude.{ℕ, zero, suc, ◌-◌, ◌%◌, Bool, true, false, not, ◌&&◌, List, [], ◌∷◌, eqb, length, Ok, Err}
+use Rattle.std.specs.Prelude.{ℕ, zero, suc, ◌-◌, ◌%◌, Bool, true, false, not, ◌&&◌, List, [], ◌∷◌, eqb, length, Ok, Err, Result}
 use Rattle.words.specs.Word.{pick}
 use Rattle.words.specs.Quad.{word_at}
 use Rattle.geometry.specs.declared.banks.Geometry.{Geometry}
-use Rattle.map.specs.Windows.{Location}
 use Rattle.words.specs.declared.decline.Decline.{Decline}
 use Rattle.words.specs.Decline.{Verdict, accepted_of, first_of}
-use Rattle.map.specs.Windows.{locate_of, word_index_of, in_second_of}
+use Rattle.map.specs.Windows.{Location, locate_of, word_index_of, in_second_of}
 use Rattle.device.specs.declared.record.Device.{Device}
-use Rattle.device.specs.State.{State, bank_of, After, after}
+use Rattle.device.specs.State.{State, state, bank_of, After, after}
 use Rattle.device.specs.Record.{running, bfswap, pfswap, op_of}
 use Rattle.common_declines.specs.CommonDecline.{common_decline_of}
 use Rattle.nvmop.specs.Operation.{length_of}
 use Rattle.flash.specs.Effect.{step_location_of}
 use Rattle.flash.specs.Step.{step_of}
 use Rattle.device.specs.Numbers.{both_erase}
+use Rattle.reads.specs.declared.FlashWord.{FlashWord}
 
 -- the bank that stands at a place, by the device's swap bits: whether it is bank 2
 abbrev pub second_at_of : Device → Location → Bool
@@ -77,6 +77,11 @@ pub record Reading : Type 0 where
 
 abbrev pub reading : After → ℕ → Reading
 reading a word = record { after = a; word = word }
+
+-- in contracts: everything after a read of this device by its result and the banks as they are then
+abbrev pub reading_from : Device → Result FlashWord Decline → List ℕ → List ℕ → Reading
+reading_from d (Ok r) one two = reading (after (Ok tt) (state r.device one two) r.event) r.word
+reading_from d (Err e) one two = reading (after (Err e) (state d one two) false) 0
 
 -- "Such a read shall carry out the remaining steps .. and then give the word, with the event."; another changes nothing
 abbrev pub ready_of : Geometry → State → List ℕ → ℕ → Stepped

@@ -1,12 +1,12 @@
 -- "Resets and start-up": the tear, and the device after a reset. Assumes nothing.
-use Rattle.std.specs.Prelude.{ℕ, ◌+◌, Bool, false, ◌&&◌, List, [], ◌∷◌, eqb, ltb, length, get_or, Ok, Err}
+use Rattle.std.specs.Prelude.{ℕ, ◌+◌, Bool, false, ◌&&◌, List, [], ◌∷◌, eqb, ltb, length, get_or, Ok, Err, Result}
 use Rattle.std.specs.Int.Bits.{bit_or}
 use Rattle.words.specs.Word.{pick, merge_of, clear_of}
 use Rattle.words.specs.Quad.{word_at, quad_at, merge_quad_of}
 use Rattle.geometry.specs.declared.banks.Geometry.{Geometry}
 use Rattle.words.specs.declared.decline.Decline.{Decline}
 use Rattle.words.specs.Decline.{Verdict, accepted_of, first_of}
-use Rattle.sequence.specs.Comparison.{Reason, Comparison, compare_of}
+use Rattle.sequence.specs.Comparison.{Reason, Comparison, reason_from, compare_of}
 use Rattle.sequence.specs.Sequence.{sequence_index_of}
 use Rattle.device.specs.declared.record.Device.{Device}
 use Rattle.device.specs.Registers.{WR, WREN, LVDERR, PFSWAP, BFSWAP, NVMERS, resets}
@@ -17,6 +17,7 @@ use Rattle.common_declines.specs.CommonDecline.{common_decline_of}
 use Rattle.flash.specs.declared.write.Write.{Write}
 use Rattle.flash.specs.Write.{written_of}
 use Rattle.flash.specs.Effect.{effect_of}
+use Rattle.resets.specs.declared.AfterReset.{AfterReset}
 use Rattle.device.specs.Numbers.{NVMCON, NVMPWP, NVMBWP, NVMCON2}
 
 -- "Kinds: 0 power-on, 1 brown-out, 2 other."
@@ -100,6 +101,11 @@ pub record Explained : Type 0 where
 
 abbrev pub explained : After → Reason → Explained
 explained a reason = record { after = a; reason = reason }
+
+-- in contracts: everything after a reset of this device by its result and the banks as they are then
+abbrev pub explained_from : Device → Result AfterReset Decline → List ℕ → List ℕ → Explained
+explained_from d (Ok r) one two = explained (after (Ok tt) (state r.device one two) false) (reason_from r.reason)
+explained_from d (Err e) one two = explained (after (Err e) (state d one two) false) Reason.NotCompared
 
 -- W-205: "Reset passes it on": the reason is that of the comparison after the tear; a declined reset has compared nothing (ours)
 unfoldable pub explained_of : Geometry → State → List ℕ → ℕ → List ℕ → Explained
