@@ -41,6 +41,6 @@ each_fits g [] h = refl
 each_fits g (words ∷ rest) h = rw (eq-eqb words (bank_words_of g) h.0) (each_fits g rest h.1)
 
 pub opens : (g : Geometry) (d : Device) (lengths : List ℕ) (sram : ℕ) → in_range_of g ≡ true → EachBank g lengths → sram ≤ 16384 → possible_of g d ≡ true
-    → common_decline_of g d lengths sram ≡ (Ok tt)
+    → common_decline_of g d lengths sram ≡ Ok tt
 unfolding common_decline_of lent_decline_up_to lengths_fit_of
 opens g d lengths sram listed banks room can = rw (listed, each_fits g lengths banks, le-leb sram 16384 room, can)

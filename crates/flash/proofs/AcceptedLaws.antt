@@ -27,12 +27,12 @@ use Rattle.flash.specs.Effect.{Runs}
 use Rattle.flash.specs.Step.{step_decline_of, advance_of}
 
 -- a step that is not declined answers so
-pub advance_accepts : (g : Geometry) (d : Device) (aborts : Bool) → (advance_of g d aborts).decline ≡ (Ok tt)
+pub advance_accepts : (g : Geometry) (d : Device) (aborts : Bool) → (advance_of g d aborts).decline ≡ Ok tt
 unfolding advance_of
 advance_accepts g d aborts = pick_both P aborts refl (pick_both P (eqb (d.step + 1) (length_of g (op_of d))) refl refl)
   where
     P : Answer → Type 0
-    P a = a.decline ≡ (Ok tt)
+    P a = a.decline ≡ Ok tt
 
 module _ (g : Geometry) (d : Device) where
   -- an operation that runs on a possible device

@@ -41,7 +41,7 @@ module _ (from to : ℕ → ℕ → ℕ → ℕ) (way : List ℕ → List ℕ) (
   abbrev judged : Verdict
   judged = lanes_decline_of (length source) (length target)
 
-  fits : (n : ℕ) → length source ≡ 4 * n → length target ≡ 4 * n → judged ≡ (Ok tt)
+  fits : (n : ℕ) → length source ≡ 4 * n → length target ≡ 4 * n → judged ≡ Ok tt
   fits n s t = even_accepted (length source) (length target) (s ∙ sym t) (omega (arith, s))
 
   written : (n : ℕ) → length source ≡ 4 * n → length target ≡ 4 * n → target_of way source target ≡ way source

@@ -33,7 +33,7 @@ at_rest_lem g d h idle =
     record { listed = r.lent.listed; range = r.lent.range; possible = r.possible; idle = idle }
 
 -- the other way
-pub rest_opens : (g : Geometry) (d : Device) → AtRest g d → common_decline_of g d [] 0 ≡ (Ok tt)
+pub rest_opens : (g : Geometry) (d : Device) → AtRest g d → common_decline_of g d [] 0 ≡ Ok tt
 rest_opens g d rest = opens g d [] 0 rest.listed tt (omega arith) rest.possible
 
 -- what an accepted store tells: 5 does not apply, at rest or by its register

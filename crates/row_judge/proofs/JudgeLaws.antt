@@ -158,7 +158,7 @@ module _ (g : Geometry) (k : ℕ) (signs : List Sign) (n : ℕ) (queue : Queue) 
 
 -- neither 1 nor 2 applies
 pub lent_accepted : (g : Geometry) (image sram : ℕ) → in_range_of g ≡ true → image ≡ bank_words_of g → sram ≤ most_sram
-    → lent_decline_of g (image ∷ []) sram ≡ (Ok tt)
+    → lent_decline_of g (image ∷ []) sram ≡ Ok tt
 unfolding lent_decline_up_to lengths_fit_of
 lent_accepted g image sram listed words room = rw (listed, eq-eqb image (bank_words_of g) words, le-leb sram most_sram room) refl
 

@@ -45,7 +45,7 @@ abbrev played : List ℕ → List ℕ → Playback
 played script buffer = play_of smallest [] start_of script buffer
 
 -- none of declines 1, 2 and 3 applies
-pub start_opens : common_decline_of smallest power_on (length first_bank ∷ length erased_bank ∷ []) 0 ≡ (Ok tt)
+pub start_opens : common_decline_of smallest power_on (length first_bank ∷ length erased_bank ∷ []) 0 ≡ Ok tt
 unfolding in_range_up_to listed_of
 start_opens =
     opens smallest power_on (length first_bank ∷ length erased_bank ∷ []) 0 refl (refl, (refl, tt)) (omega arith)

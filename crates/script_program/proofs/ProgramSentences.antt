@@ -74,7 +74,7 @@ module _ (s : State) (b : Bench s) where
           → (restart_of smallest torn 0).state ≡ s
       go true on e = ap (λ (a : After). a.state) (rw (on, reset_of) at e)
       go false off e =
-          let answer : reset_answer_of smallest s [] 0 ≡ (Ok tt) = ap (λ (a : After). a.decline) (rw (off, reset_of) at e) in
+          let answer : reset_answer_of smallest s [] 0 ≡ Ok tt = ap (λ (a : After). a.decline) (rw (off, reset_of) at e) in
           absurd (true_not_false (sym (ap accepted_of answer) ∙ off))
 
   same_device : s.device ≡ power_on

@@ -111,8 +111,8 @@ module _ (g : Geometry) (sram : List ℕ) (s : State) (x : List ℕ) (number : �
 
   -- both pairs of banks have their length
   both_fit : accepted_of (lent_of g sram s one two) ≡ true
-      → (lent_decline_of g (length s.one ∷ length s.two ∷ []) (length sram) ≡ (Ok tt))
-      × (lent_decline_of g (length one ∷ length two ∷ []) 0 ≡ (Ok tt))
+      → (lent_decline_of g (length s.one ∷ length s.two ∷ []) (length sram) ≡ Ok tt)
+      × (lent_decline_of g (length one ∷ length two ∷ []) 0 ≡ Ok tt)
   unfolding lent_decline_up_to
   both_fit h =
       let four = fit_four g (length s.one) (length s.two) (length one) (length two) (length sram) in
@@ -122,21 +122,21 @@ module _ (g : Geometry) (sram : List ℕ) (s : State) (x : List ℕ) (number : �
       (rw (range, first), rw (range, other))
 
   module _ (lent : accepted_of (lent_of g sram s one two) ≡ true) where
-    other_buffer : (length result ≡ length x → ⊥) → unplayed ≡ (Err Decline.Length)
+    other_buffer : (length result ≡ length x → ⊥) → unplayed ≡ Err Decline.Length
     unfolding unplayed_decline_of
     other_buffer e = rw ((both_fit lent).0, ne_eqb (length result) (length x) e)
 
     module _ (buffer : length result ≡ length x) where
-      no_device : possible_of g s.device ≡ false → unplayed ≡ (Err Decline.Device)
+      no_device : possible_of g s.device ≡ false → unplayed ≡ Err Decline.Device
       unfolding unplayed_decline_of common_decline_of
       no_device e = rw ((both_fit lent).0, eq-eqb (length result) (length x) buffer, (both_fit lent).1, e)
 
       module _ (possible : possible_of g s.device ≡ true) where
-        not_script : is_script_of x ≡ false → unplayed ≡ (Err Decline.Script)
+        not_script : is_script_of x ≡ false → unplayed ≡ Err Decline.Script
         unfolding unplayed_decline_of common_decline_of
         not_script e = rw ((both_fit lent).0, eq-eqb (length result) (length x) buffer, (both_fit lent).1, possible, e)
 
-        too_many : is_script_of x ≡ true → 64 < records_of x → unplayed ≡ (Err Decline.Records)
+        too_many : is_script_of x ≡ true → 64 < records_of x → unplayed ≡ Err Decline.Records
         unfolding unplayed_decline_of common_decline_of
         too_many e l =
             rw ((both_fit lent).0, eq-eqb (length result) (length x) buffer, (both_fit lent).1, possible, e, lt-leb (records_of x) 64 l)

@@ -417,7 +417,7 @@ module _ (u : Fixed) where
     NewRuns t = (c : Cut) → Restarts g t c → Runs (restarted g t c) (not b) (new_bank u)
 
     abbrev pub Again : State → Type 0
-    Again t = (Update g t image × (Whole t → ⊥)) ⊎ (((start_of g t image).decline ≡ (Err Decline.Sequence)) × (Whole t × NewRuns t))
+    Again t = (Update g t image × (Whole t → ⊥)) ⊎ (((start_of g t image).decline ≡ Err Decline.Sequence) × (Whole t × NewRuns t))
 
     pub past_starts : (p : Position) → Past p → Again p.state
     past_starts p h = go (outcome there.phase (ap (λ (s : State). running s.device) (sym there.state) ∙ h.idle))

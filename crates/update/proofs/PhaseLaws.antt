@@ -182,7 +182,7 @@ module _ (u : Fixed) where
           phase = phase;
         }
       where
-        opened : common_decline_of g d (length (pick b new old) ∷ length (pick b old new) ∷ []) (length sram) ≡ (Ok tt)
+        opened : common_decline_of g d (length (pick b new old) ∷ length (pick b old new) ∷ []) (length sram) ≡ Ok tt
         opened = opens g d _ (length sram) listed (sound.first, (sound.other, tt)) short sound.possible
 
         leaves : (step_of g (placed b d old new) sram).state ≡ placed b (advance_of g d false).device old (put_quad new j words)

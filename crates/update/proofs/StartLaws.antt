@@ -190,7 +190,7 @@ module _ (u : Fixed) (f : Device) (new : List ℕ) where
       lower_is : lower_word_of g (placed b f old new) ≡ word_at old (sequence_index_of g)
       lower_is = lower_placed b f old new g started.boot
 
-      opened : common_decline_of g f (length (pick b new old) ∷ length (pick b old new) ∷ length image ∷ []) 0 ≡ (Ok tt)
+      opened : common_decline_of g f (length (pick b new old) ∷ length (pick b old new) ∷ length image ∷ []) 0 ≡ Ok tt
       opened =
           let (first, other) = both_placed (λ (l : List ℕ). length l ≡ bank_words_of g) b old new old_long long in
           opens g f (length (pick b new old) ∷ length (pick b old new) ∷ length image ∷ []) 0 listed (first, (other, (image_long, tt))) (omega arith)
@@ -224,7 +224,7 @@ module _ (u : Fixed) (f : Device) (new : List ℕ) where
 
   pub declined_whole : length new ≡ bank_words_of g → chosen_of b (word_at old (sequence_index_of g)) (word_at new (sequence_index_of g)) ≡ not b
       → CanStart g b f
-      → (start_of g (placed b f old new) image).decline ≡ (Err Decline.Sequence)
+      → (start_of g (placed b f old new) image).decline ≡ Err Decline.Sequence
   unfolding start_of start_decline_of sequence_allows_of
   declined_whole long wins can =
       let (first, other) = both_placed (λ (l : List ℕ). length l ≡ bank_words_of g) b old new old_long long in

@@ -39,15 +39,15 @@ use Rattle.update.specs.PowerFail.{Position, at, turned_of}
 use Rattle.update.proofs.FormLaws.{actions_formed, step_carried}
 
 -- an action that is not declined
-acts : (d : Device) (a : Action) → accepted_of (action_decline_of d a) ≡ true → action_decline_of d a ≡ (Ok tt)
+acts : (d : Device) (a : Action) → accepted_of (action_decline_of d a) ≡ true → action_decline_of d a ≡ Ok tt
 acts d (Store r form value) h = go (may_store_of d r) h
   where
-    go : (t : Bool) → accepted_of (pick t (Ok tt) (Err Decline.Running)) ≡ true → pick t (Ok tt) (Err Decline.Running) ≡ (Ok tt)
+    go : (t : Bool) → accepted_of (pick t (Ok (tt {0})) (Err Decline.Running)) ≡ true → pick t (Ok (tt {0})) (Err Decline.Running) ≡ Ok (tt {0})
     go true h = refl
     go false h = true_not_false (sym h)
 acts d Step h = go (running d) h
   where
-    go : (t : Bool) → accepted_of (pick t (Ok tt) (Err Decline.Idle)) ≡ true → pick t (Ok tt) (Err Decline.Idle) ≡ (Ok tt)
+    go : (t : Bool) → accepted_of (pick t (Ok (tt {0})) (Err Decline.Idle)) ≡ true → pick t (Ok (tt {0})) (Err Decline.Idle) ≡ Ok (tt {0})
     go true h = refl
     go false h = true_not_false (sym h)
 
@@ -79,27 +79,27 @@ module _ (g : Geometry) (s : State) (image sram : List ℕ) (place : ℕ) where
 
   -- its action is carried out
   carries : Ready g s.device lengths (length sram) → (a : Action) → Formed a → accepted_of (action_decline_of s.device a) ≡ true
-      → (perform_of g s sram a).decline ≡ (Ok tt)
+      → (perform_of g s sram a).decline ≡ Ok tt
   unfolding store_accepted_of
   carries opened (Store r form value) ok h = go (may_store_of s.device r) refl h
     where
       go : (t : Bool) → may_store_of s.device r ≡ t → accepted_of (pick t (Ok tt) (Err Decline.Running)) ≡ true
-          → (store_of g s.device r form value).decline ≡ (Ok tt)
+          → (store_of g s.device r form value).decline ≡ Ok tt
       go true may h =
           ap (λ (a : Answer). a.decline) (store_carried g s.device r form value opened.lent.listed opened.possible ok may)
-          ∙ pick_both (λ (a : Answer). a.decline ≡ (Ok tt)) (eqb r 0) refl refl
+          ∙ pick_both (λ (a : Answer). a.decline ≡ Ok tt) (eqb r 0) refl refl
       go false may h = true_not_false (sym h)
   carries opened Step ok h = rest (running s.device) refl h
     where
       rest : (t : Bool) → running s.device ≡ t → accepted_of (pick t (Ok tt) (Err Decline.Idle)) ≡ true
-          → (step_of g s sram).decline ≡ (Ok tt)
+          → (step_of g s sram).decline ≡ Ok tt
       rest true e h =
           let banks = opened.lent.banks in
           ap (λ (a : After). a.decline)
           (step_carried g s sram opened.lent.listed (record { possible = opened.possible; first = banks.0; other = banks.1.0 }) opened.lent.room e)
       rest false e h = true_not_false (sym h)
 
-  accepts : Accepts → turn_decline_of g s image (length sram) place ≡ (Ok tt)
+  accepts : Accepts → turn_decline_of g s image (length sram) place ≡ Ok tt
   unfolding turn_decline_of
   accepts h =
       let r = opened h in
@@ -107,7 +107,7 @@ module _ (g : Geometry) (s : State) (image sram : List ℕ) (place : ℕ) where
     where
       go : (t : Bool) → eqb place (total_of g) ≡ t
           → pick (ltb place (total_of g)) (action_decline_of s.device (next_action_of g s image place))
-          (pick t (Ok tt) (Err Decline.Place)) ≡ (Ok tt)
+          (pick t (Ok tt) (Err Decline.Place)) ≡ Ok tt
       go true e = rw (le-ltb place (total_of g) (omega (arith, eqb-true place (total_of g) e)))
       go false e = let (below, ok) = acting h e in rw (lt-ltb place (total_of g) below, acts s.device (next_action_of g s image place) ok)
 
@@ -130,7 +130,7 @@ module _ (g : Geometry) (s : State) (image sram : List ℕ) (place : ℕ) where
       go true h = at_total (eqb place (total_of g)) refl ∙ sym (accepts h)
         where
           at_total : (t : Bool) → eqb place (total_of g) ≡ t
-              → (pick t (turning (Ok tt) true s place false) performing).decline ≡ (Ok tt)
+              → (pick t (turning (Ok tt) true s place false) performing).decline ≡ Ok tt
           at_total true e = refl
           at_total false e = carries (opened h) (next_action_of g s image place) (actions_formed g image (lower_word_of g s) place) (acting h e).1
       go false h = refl
@@ -187,7 +187,7 @@ module _ (g : Geometry) (s : State) (image sram : List ℕ) (place : ℕ) where
 
   -- ---- with a short SRAM a turn is declined for its action alone, and at the total for nothing
   module _ (listed : in_range_of g ≡ true) (sound : Sound g s) (long : length image ≡ bank_words_of g) (short : length sram ≤ 16384) where
-    common : common_decline_of g s.device lengths (length sram) ≡ (Ok tt)
+    common : common_decline_of g s.device lengths (length sram) ≡ Ok tt
     common = opens g s.device lengths (length sram) listed (sound.first, (sound.other, (long, tt))) short sound.possible
 
     pub turn_answers : place < total_of g → accepted_of (action_decline_of s.device (next_action_of g s image place)) ≡ true
