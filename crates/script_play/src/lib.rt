@@ -11,7 +11,7 @@ use geometry::banks::Geometry;
 use geometry::lent::Lent;
 use script_format::{is_script, record_at};
 use script_record::play_record;
-use text::lines::{lines_length, write_line};
+use text::lines::{Line, lines_length, write_line};
 use words::decline::Decline;
 
 // The answer to a play, and the bytes of its whole output: where the buffer is shorter, it holds the output's front.
@@ -71,7 +71,13 @@ fn play_accepted(
         let a = play_record(g, device, one, two, sram, record_at(script, i));
         let decline = a.decline;
         device = a.device;
-        bytes = write_line(out, bytes, i, decline.number(), device.nvmcon.0, a.event);
+        let line = Line {
+            number: i,
+            answer: decline.number(),
+            con: device.nvmcon.0,
+            event: a.event,
+        };
+        bytes = write_line(out, bytes, line);
         i += 1;
     }
     Played {
