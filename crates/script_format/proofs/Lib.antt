@@ -1,1 +1,3 @@
 pub mod ScriptSentences
+pub mod RangeLaws
+pub mod PutLaws

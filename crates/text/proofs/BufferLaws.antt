@@ -6,9 +6,9 @@ use Prim.Native.Nat.{ℕ, suc, ◌+◌, ◌-◌, ◌≤◌, min}
 use native.Mathlib.Decide.{dec_le}
 use native.Mathlib.Omega.{arith}
 use lib.ListN.{length, set, take, drop, take-append-drop, drop_of_length-le}
-use lib.Seq.{sets, sets-eq, paste, set_comm, set_out, take_all, take-append_seam, length-take-le, length-sets}
+use lib.Seq.{sets, set_comm, set_out, take_all, take-append_seam, length-take-le, length-sets}
 use borrow.Rule.Slice.PartMut.{put_mid}
-use Rattle.std.proofs.lemmas.Slice.{put_mid-paste}
+use Rattle.words.proofs.PartLaws.{put_part}
 use Rattle.text.specs.Buffer.{put_first}
 
 -- two runs of bytes are one
@@ -66,16 +66,13 @@ put_ends out bytes at count e = go (dec_le (length bytes) count)
 pub put-front : (out bytes : List ℕ) (at from count : ℕ) → from ≡ min at (length out) → count ≡ min (length bytes) (length out - from)
     → put_mid from (from + count - from) out (take count bytes) ≡ sets out at bytes
 put-front out bytes at from count e n =
-    put_mid-paste from _ out first first count refl (omega arith) (sym long) ∙ pasted ∙ go (dec_le (length out) at)
+    put_part out first from (from + count - from) (omega (arith, long)) (omega arith) ∙ go (dec_le (length out) at)
   where
     first : List ℕ
     first = take count bytes
 
     long : length first ≡ count
     long = length-take-le count bytes (omega arith)
-
-    pasted : paste out from first count ≡ sets out from first
-    pasted = rw (sets-eq first out from (omega (arith, long)), long, take_all count first (omega (arith, long)))
 
     go : Dec (length out ≤ at) → sets out from first ≡ sets out at bytes
     go (yes past) = sets_out out from first (omega arith) ∙ sym (sets_out out at bytes past)

@@ -9,3 +9,4 @@ pub mod DeclineLaws
 pub mod Numbers
 pub mod ListLaws
 pub mod AscendingLaws
+pub mod PartLaws
