@@ -1,5 +1,5 @@
 -- The plan: the smallest wait after which all minutes lie in the same window. Assumes nothing.
-use Rattle.std.specs.Prelude.{ℕ, ◌+◌, ◌%◌, Bool, List, ltb}
+use Rattle.std.specs.Prelude.{ℕ, ◌+◌, ◌%◌, Bool, List, Option, Some, None, ltb}
 use Rattle.words.specs.Word.{pick, all_below, any_below, first_from}
 use Rattle.words.specs.declared.decline.Decline.{Decline}
 use Rattle.planner.specs.declared.plan.Planned.{Planned}
@@ -16,6 +16,10 @@ fits_of minute duration lent n wait = any_below (λ i. fits_in_of minute duratio
 -- "the smallest wait, 0 to 10,079", by the first n windows of a lent list; 10,080 where none fits
 abbrev pub least_wait_of : ℕ → ℕ → List ℕ → ℕ → ℕ
 least_wait_of minute duration lent n = first_from (fits_of minute duration lent n) 0 week
+
+-- a wait of the week, if it is one
+abbrev pub in_week : ℕ → Option ℕ
+in_week wait = pick (ltb wait week) (Some wait) None
 
 abbrev pub planned : Decline → ℕ → Planned
 planned decline wait = record { decline = decline; wait = wait }

@@ -1,3 +1,2 @@
 pub mod ScriptSentences
-pub mod RangeLaws
 pub mod PutLaws

@@ -10,3 +10,4 @@ pub mod Numbers
 pub mod ListLaws
 pub mod AscendingLaws
 pub mod PartLaws
+pub mod RangeLaws

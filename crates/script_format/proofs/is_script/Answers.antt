@@ -4,7 +4,7 @@ use borrow.Author.Tests.{eq-eqb, tests}
 use Rattle.std.proofs.lemmas.Iterator.{YieldsList-from_range}
 use Rattle.std.proofs.lemmas.Iterator.Search.{all_from_yields_List}
 use Rattle.script_format.specs.Records.{is_record_of, record_of, is_script_of}
-use Rattle.script_format.proofs.RangeLaws.{list_all-below}
+use Rattle.words.proofs.RangeLaws.{list_all-below}
 use Rattle.script_format.proofs.is_script.Goals as goal
 
 pub returns-then-script-eq0 : goal.returns-then-script-eq0
