@@ -2,7 +2,7 @@
 use mathlib.Core.Path.{◌≡◌, refl, ap, ◌∙◌}
 use mathlib.Core.Bool.{Bool, true, false}
 use mathlib.Core.List.{List, [], ◌∷◌, ◌++◌}
-use Prim.Native.Nat.{ℕ, zero, suc, ◌+◌, ◌≤◌, ◌<◌, min}
+use Prim.Native.Nat.{ℕ, zero, suc, ◌+◌, ◌<◌, min}
 use native.Mathlib.Numerals.{add-one}
 use native.Mathlib.Omega.{arith}
 use lib.Dec.{ltb}
@@ -21,21 +21,6 @@ some_wait wait least e l = rw (← e, lt-ltb wait week l)
 
 pub no_wait : (least : ℕ) → week ≡ least → None ≡ in_week least
 no_wait least e = rw (← e)
-
--- and back
-pub some_least : (wait least : ℕ) → Some wait ≡ in_week least → (wait ≡ least) × (least < week)
-some_least wait least e = go (ltb least week) refl
-  where
-    go : (t : Bool) → ltb least week ≡ t → (wait ≡ least) × (least < week)
-    go true l = let same : Some wait ≡ Some least = e ∙ rw l in (cc, ltb-true least week l)
-    go false l = let none : ◌≡◌ {A = Option ℕ} (Some wait) None = e ∙ rw l in cc
-
-pub none_least : (least : ℕ) → None ≡ in_week least → week ≤ least
-none_least least e = go (ltb least week) refl
-  where
-    go : (t : Bool) → ltb least week ≡ t → week ≤ least
-    go true l = let some : ◌≡◌ {A = Option ℕ} None (Some least) = e ∙ rw l in absurd (cc)
-    go false l = ltb-false least week l
 
 -- ---- the smallest of several
 

@@ -1,8 +1,8 @@
 -- The plan: the smallest wait after which all minutes lie in the same window. Assumes nothing.
-use Rattle.std.specs.Prelude.{ℕ, ◌+◌, ◌%◌, Bool, List, Option, Some, None, ltb}
+use Rattle.std.specs.Prelude.{ℕ, ◌+◌, ◌%◌, Bool, List, Option, Some, None, Result, Ok, Err, ltb}
 use Rattle.words.specs.Word.{pick, all_below, any_below, first_from}
 use Rattle.words.specs.declared.decline.Decline.{Decline}
-use Rattle.planner.specs.declared.plan.Planned.{Planned}
+use Rattle.words.specs.Decline.{Verdict}
 use Rattle.planner.specs.Windows.{week, Window, window_count_of, window_at, held_of, in_range_of}
 
 -- after a wait, "all those minutes, counted modulo 10,080, lie in" a window
@@ -21,15 +21,25 @@ least_wait_of minute duration lent n = first_from (fits_of minute duration lent 
 abbrev pub in_week : ℕ → Option ℕ
 in_week wait = pick (ltb wait week) (Some wait) None
 
-abbrev pub planned : Decline → ℕ → Planned
+-- the answer: the verdict, the wait
+pub record Planned : Type 0 where
+  pub decline : Verdict
+  pub wait : ℕ
+
+abbrev pub planned : Verdict → ℕ → Planned
 planned decline wait = record { decline = decline; wait = wait }
 
 -- "15, any of these numbers out of range; 16, checked after it, no wait fits"; beside a decline the wait is 0 (ours)
 abbrev pub answer_of : Bool → Bool → ℕ → Planned
-answer_of in_range fits wait = pick in_range (pick fits (planned Decline.Accepted wait) (planned Decline.NoWait 0)) (planned Decline.Hours 0)
+answer_of in_range fits wait = pick in_range (pick fits (planned (Ok tt) wait) (planned (Err Decline.NoWait) 0)) (planned (Err Decline.Hours) 0)
 
 -- the answer by all windows of a lent list
 unfoldable pub plan_of : ℕ → ℕ → List ℕ → Planned
 plan_of minute duration lent =
     let wait = least_wait_of minute duration lent (window_count_of lent) in
     answer_of (in_range_of minute duration lent) (ltb wait week) wait
+
+-- in contracts: the answer that a plan gives. Where it is declined the wait is 0.
+abbrev pub planned_from : Result ℕ Decline → Planned
+planned_from (Ok wait) = planned (Ok tt) wait
+planned_from (Err e) = planned (Err e) 0

@@ -2,23 +2,10 @@
 ghost use Rattle.std.specs.Prelude.{◌≡◌};
 ghost use Rattle.planner.specs.PlanLaws.{InRange};
 ghost use Rattle.planner.specs.Windows.{window_count_of};
-ghost use Rattle.planner.specs.Planner.{in_week, least_wait_of, planned, plan_of};
+ghost use Rattle.planner.specs.Planner.{in_week, least_wait_of, planned_from, plan_of};
 
 use crate::windows::{Window, in_range};
 use words::decline::Decline;
-
-// The answer, and the wait: 0 where the plan is declined.
-#[derive(Clone, Copy)]
-pub struct Planned {
-    pub decline: Decline,
-    pub wait: u32,
-}
-
-fn declined(decline: Decline) -> Planned
-    ensures { result ≡ planned decline 0 }
-{
-    Planned { decline, wait: 0 }
-}
 
 // The least wait by all windows, if one fits any.
 fn least_wait(minute: u32, duration: u32, windows: &[u32]) -> Option<u32>
@@ -31,17 +18,11 @@ fn least_wait(minute: u32, duration: u32, windows: &[u32]) -> Option<u32>
 }
 
 // The smallest wait after which the minutes of a duration lie in one window. The windows are lent as start, length, start, length, ..
-pub fn plan(minute: u32, duration: u32, windows: &[u32]) -> Planned
-    ensures { result ≡ plan_of minute duration windows.now }
+pub fn plan(minute: u32, duration: u32, windows: &[u32]) -> Result<u32, Decline>
+    ensures { planned_from result ≡ plan_of minute duration windows.now }
 {
     if !in_range(minute, duration, windows) {
-        return declined(Decline::Hours);
+        return Err(Decline::Hours);
     }
-    match least_wait(minute, duration, windows) {
-        Some(wait) => Planned {
-            decline: Decline::Accepted,
-            wait,
-        },
-        None => declined(Decline::NoWait),
-    }
+    least_wait(minute, duration, windows).ok_or(Decline::NoWait)
 }
