@@ -4,7 +4,7 @@
 ghost use Rattle.std.specs.Prelude.{◌≡◌, length};
 ghost use Rattle.lanes.specs.Lanes.{lanes_out_of, lanes_back_of, lanes_decline_of, target_of};
 
-use lanes_interleave::blocks::{block_end, words_back};
+use lanes_interleave::blocks::{BLOCK_WORDS, block_end, words_back};
 use words::decline::Decline;
 
 // Why a way out or back is declined, by the lengths of its source and target.
@@ -12,10 +12,7 @@ use words::decline::Decline;
 fn lanes_decline(source: usize, target: usize) -> Decline
     ensures { result ≡ lanes_decline_of source target }
 {
-    if source != target {
-        return Decline::Lanes;
-    }
-    if source % 4 != 0 {
+    if source != target || source % 4 != 0 {
         return Decline::Lanes;
     }
     Decline::Accepted
@@ -32,14 +29,11 @@ pub fn lanes_out(source: &[u8], target: &mut [u8]) -> Decline
         return decline;
     }
     let n = source.len() / 4;
-    let mut i = 0;
-    while i < n {
-        let word = 4 * i;
-        target[i] = source[word];
-        target[n + i] = source[word + 1];
-        target[2 * n + i] = source[word + 2];
-        target[3 * n + i] = source[word + 3];
-        i += 1;
+    for i in 0..n {
+        target[i] = source[4 * i];
+        target[n + i] = source[4 * i + 1];
+        target[2 * n + i] = source[4 * i + 2];
+        target[3 * n + i] = source[4 * i + 3];
     }
     decline
 }
@@ -54,11 +48,9 @@ pub fn lanes_back(source: &[u8], target: &mut [u8]) -> Decline
         return decline;
     }
     let n = source.len() / 4;
-    let mut i = 0;
-    while i < n {
-        let end = block_end(n, i);
-        words_back(source, target, n, i, end);
-        i = end;
+    for block in 0..n.div_ceil(BLOCK_WORDS) {
+        let from = BLOCK_WORDS * block;
+        words_back(source, target, n, from, block_end(n, from));
     }
     decline
 }

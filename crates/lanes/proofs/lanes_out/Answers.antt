@@ -10,13 +10,12 @@ pub loop-i-init : goal.loop-i-init
 loop-i-init c =
     let accepted = ap accepted_of (sym c.lanes_decline-decline.ensures) ∙ sym c.is_accepted.ensures ∙ c.if-not-is_accepted.false in
     let (whole, same) = accepted_lengths _ _ accepted in
-    record { within = omega arith; whole = whole; same = same; kept = same; moved = λ k j hk hj. absurd (omega arith) }
+    record { whole = whole; same = same; kept = same; moved = λ k j hk hj. absurd (omega arith) }
 
 pub loop-i-preserved : goal.loop-i-preserved
 loop-i-preserved c =
     let inv = c.loop-i.invariant in
     record {
-      within = omega arith;
       whole = inv.whole;
       same = inv.same;
       kept = simp length-set inv.kept;
