@@ -4,7 +4,7 @@ ghost use Rattle.std.specs.Prelude.{◌≡◌, ◌+◌, ◌*◌, ◌^◌, ◌<�
 ghost use Rattle.std.specs.Option.{is_some, unwrap_or};
 ghost use Rattle.words.specs.Word.{pick};
 ghost use Rattle.words.specs.Quad.{quad_at, blank_quad};
-ghost use Rattle.geometry.specs.Banks.{InRange, bank_words_of};
+ghost use Rattle.geometry.specs.Banks.{bank_words_of};
 ghost use Rattle.device.specs.Record.{bfswap, pfswap};
 ghost use Rattle.device.specs.State.{lent};
 ghost use Rattle.map.specs.Windows.{window_bytes_of, located, in_second_of};
@@ -17,7 +17,7 @@ use device::numbers::{
 };
 use device::record::Device;
 use device::registers::Nvmcon;
-use geometry::banks::Geometry;
+use geometry::layout::Layout;
 use map::Location;
 use nvmop::{op, target};
 use protection::is_boot_protected;
@@ -33,16 +33,16 @@ pub struct Effect {
 
 // Where the quad of the next step stands.
 #[tactic(auto, unfolding(crate::specs::Effect::step_at_of))]
-pub fn step_location(g: Geometry, d: Device) -> Location
-    requires { Runs g d }
-    ensures { stands_of result ≡ step_location_of g d }
+pub fn step_location(layout: Layout, d: Device) -> Location
+    requires { Runs layout.geometry d }
+    ensures { stands_of result ≡ step_location_of layout.geometry d }
 {
     let op = op(d);
     let step = d.step;
-    let region = 8 * g.q * g.p;
+    let region = 8 * layout.geometry.q * layout.geometry.p;
     match op {
         NO_OPERATION..=PAGE_ERASE => {
-            let target = target(g, op, d.launched.nvmaddr).unwrap();
+            let target = target(layout, op, d.launched.nvmaddr).unwrap();
             Location {
                 offset: target.offset + 16 * step,
                 ..target
@@ -69,12 +69,11 @@ fn in_region(upper: bool, quad: u32) -> Location
 
 // Whether that quad is in a protected boot page.
 #[tactic(auto, unfolding(crate::specs::Effect::blocked_of))]
-fn is_blocked(g: Geometry, d: Device, l: Location) -> bool
-    requires in_range { InRange g }
-    requires offset_bound { l.offset + 16 ≤ window_bytes_of g l.program }
-    ensures { result ≡ blocked_of g d (stands_of l) }
+fn is_blocked(layout: Layout, d: Device, l: Location) -> bool
+    requires offset_bound { l.offset + 16 ≤ window_bytes_of layout.geometry l.program }
+    ensures { result ≡ blocked_of layout.geometry d (stands_of l) }
 {
-    !l.program && is_boot_protected(d, l.upper, l.page(g))
+    !l.program && is_boot_protected(d, l.upper, l.page(layout))
 }
 
 // The word of the SRAM at which the data of a row's next quad begins.
@@ -147,15 +146,15 @@ fn doing(aborts: bool, second: bool, quad: u32, words: Option<[u32; 4]>) -> Effe
 
 // What the next step of the running operation does.
 #[tactic(auto, unfolding(crate::specs::Effect::effect_of))]
-pub fn next_effect(g: Geometry, d: Device, one: &[u32], two: &[u32], sram: &[u32]) -> Effect
-    requires runs { Runs g d }
-    requires one_len { (length one.now ≡ bank_words_of g) × (length two.now ≡ bank_words_of g) }
-    ensures { effect_from result ≡ effect_of g (lent d one.entry two.entry) sram.now }
+pub fn next_effect(layout: Layout, d: Device, one: &[u32], two: &[u32], sram: &[u32]) -> Effect
+    requires runs { Runs layout.geometry d }
+    requires one_len { (length one.now ≡ bank_words_of layout.geometry) × (length two.now ≡ bank_words_of layout.geometry) }
+    ensures { effect_from result ≡ effect_of layout.geometry (lent d one.entry two.entry) sram.now }
 {
-    let l = step_location(g, d);
+    let l = step_location(layout, d);
     let second = second_at(d, l);
-    let quad = l.quad_index(g);
-    if is_blocked(g, d, l) {
+    let quad = l.quad_index(layout);
+    if is_blocked(layout, d, l) {
         return doing(false, second, quad, None);
     }
     effect_at(d, sram, second, quad, old_quad(one, two, second, quad))

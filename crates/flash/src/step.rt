@@ -1,7 +1,7 @@
 // One step of the running operation.
 // What asks for Runs, or that no decline applies, is no call of the device: its callers decide their decline first.
-ghost use Rattle.std.specs.Prelude.{◌≡◌, true, length};
-ghost use Rattle.words.specs.Decline.{accepted_of};
+ghost use Rattle.std.specs.Prelude.{◌≡◌, IfOk, true, length};
+ghost use Rattle.words.specs.Decline.{verdict_from, accepted_of};
 ghost use Rattle.geometry.specs.Banks.{bank_words_of};
 ghost use Rattle.device.specs.Answer.{answer_from};
 ghost use Rattle.device.specs.State.{state, lent, leaves};
@@ -16,6 +16,7 @@ use device::outcome::Outcome;
 use device::record::Device;
 use device::registers::Nvmcon;
 use geometry::banks::Geometry;
+use geometry::layout::Layout;
 use geometry::lent::Lent;
 use nvmop::{length, op};
 use words::decline::Decline;
@@ -29,14 +30,21 @@ pub struct StepEffect {
 }
 
 #[tactic(auto, unfolding(crate::specs::Step::step_decline_of))]
-fn step_decline(g: Geometry, d: Device, one: usize, two: usize, sram: usize) -> Result<(), Decline>
-    ensures { result ≡ step_decline_of g d one two sram }
+fn step_decline(
+    g: Geometry,
+    d: Device,
+    one: usize,
+    two: usize,
+    sram: usize,
+) -> Result<Layout, Decline>
+    ensures verdict { verdict_from result ≡ step_decline_of g d one two sram }
+    ensures layout { IfOk result (λ layout. layout.geometry ≡ g) }
 {
-    common_decline(g, d, Lent::Banks(one, two), sram)?;
+    let layout = common_decline(g, d, Lent::Banks(one, two), sram)?;
     if !has(d.nvmcon.0, Nvmcon::WR) {
         return Err(Decline::Idle);
     }
-    Ok(())
+    Ok(layout)
 }
 
 // The device after an operation.
@@ -48,9 +56,9 @@ fn ended(d: Device, con: u32) -> Device
 
 // What a step leaves that aborts or not.
 #[tactic(auto, unfolding(crate::specs::Step::advance_of))]
-fn advance(g: Geometry, d: Device, aborts: bool) -> Outcome
-    requires { Runs g d }
-    ensures { advanced result.device result.event ≡ advance_of g d aborts }
+fn advance(layout: Layout, d: Device, aborts: bool) -> Outcome
+    requires { Runs layout.geometry d }
+    ensures { advanced result.device result.event ≡ advance_of layout.geometry d aborts }
 {
     let con = d.nvmcon.0;
     let next = d.step + 1;
@@ -60,7 +68,7 @@ fn advance(g: Geometry, d: Device, aborts: bool) -> Outcome
             event: true,
         };
     }
-    if next == length(g, op(d)) {
+    if next == length(layout, op(d)) {
         return Outcome {
             device: ended(d, clear(con, Nvmcon::WR + Nvmcon::WRERR)),
             event: true,
@@ -73,14 +81,14 @@ fn advance(g: Geometry, d: Device, aborts: bool) -> Outcome
 }
 
 // A step that is not declined: one quad, ascending.
-pub fn step_effect(g: Geometry, d: Device, one: &[u32], two: &[u32], sram: &[u32]) -> StepEffect
-    requires runs { Runs g d }
-    requires one_len { (length one.now ≡ bank_words_of g) × (length two.now ≡ bank_words_of g) }
-    ensures { step_effect_from result ≡ step_effect_of g (lent d one.entry two.entry) sram.now }
+pub fn step_effect(layout: Layout, d: Device, one: &[u32], two: &[u32], sram: &[u32]) -> StepEffect
+    requires runs { Runs layout.geometry d }
+    requires one_len { (length one.now ≡ bank_words_of layout.geometry) × (length two.now ≡ bank_words_of layout.geometry) }
+    ensures { step_effect_from result ≡ step_effect_of layout.geometry (lent d one.entry two.entry) sram.now }
 {
-    let e = next_effect(g, d, one, two, sram);
+    let e = next_effect(layout, d, one, two, sram);
     StepEffect {
-        outcome: advance(g, d, e.aborts),
+        outcome: advance(layout, d, e.aborts),
         write: e.write,
     }
 }
@@ -88,16 +96,16 @@ pub fn step_effect(g: Geometry, d: Device, one: &[u32], two: &[u32], sram: &[u32
 // A step that is not declined, with its write. No call of the device: its callers judge the declines first.
 #[tactic(auto, unfolding(crate::specs::Step::step_of))]
 pub fn step_accepted(
-    g: Geometry,
+    layout: Layout,
     d: Device,
     one: &mut [u32],
     two: &mut [u32],
     sram: &[u32],
 ) -> Outcome
-    requires { accepted_of (step_decline_of g d (length one.old) (length two.old) (length sram.now)) ≡ true }
-    ensures { leaves (advanced result.device result.event) one.new two.new ≡ step_of g (state d one.old two.old) sram.now }
+    requires { accepted_of (step_decline_of layout.geometry d (length one.old) (length two.old) (length sram.now)) ≡ true }
+    ensures { leaves (advanced result.device result.event) one.new two.new ≡ step_of layout.geometry (state d one.old two.old) sram.now }
 {
-    let e = step_effect(g, d, one, two, sram);
+    let e = step_effect(layout, d, one, two, sram);
     apply(one, two, e.write);
     e.outcome
 }
@@ -113,6 +121,6 @@ pub fn step(
 ) -> Result<Outcome, Decline>
     ensures { leaves (answer_from d result) one.new two.new ≡ step_of g (state d one.old two.old) sram.now }
 {
-    step_decline(g, d, one.len(), two.len(), sram.len())?;
-    Ok(step_accepted(g, d, one, two, sram))
+    let layout = step_decline(g, d, one.len(), two.len(), sram.len())?;
+    Ok(step_accepted(layout, d, one, two, sram))
 }

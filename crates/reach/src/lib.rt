@@ -3,11 +3,12 @@
 #![tactic(auto)]
 
 ghost use Rattle.std.specs.Prelude.{◌≡◌, ◌≤◌, ◌<◌, length};
-ghost use Rattle.geometry.specs.Banks.{InRange, bank_words_of};
+ghost use Rattle.geometry.specs.Banks.{bank_words_of};
 ghost use Rattle.update.specs.Actions.{bank_quads_of};
 ghost use Rattle.reach.specs.Reach.{reach_number_of, with_word_of, difference_of, programmed_at_of, data_place_of, answer_of, reach_of};
 
-use geometry::banks::{Geometry, boot_quads, page_quads, pages};
+use geometry::banks::Geometry;
+use geometry::layout::Layout;
 use geometry::lent::{Lent, lent_decline};
 use sequence::sequence_quad;
 use words::decline::Decline;
@@ -88,14 +89,13 @@ fn compare_images(image: &[u32], other: &[u32]) -> Difference
 
 // The number of a quad of the bank in the order of the programming.
 #[tactic(auto, unfolding(crate::specs::Reach::programmed_at_of))]
-fn programmed_at(g: Geometry, quad: u32) -> u32
-    requires in_range { InRange g }
-    requires quad_bound { quad < bank_quads_of g }
-    ensures { result ≡ programmed_at_of g quad }
+fn programmed_at(layout: Layout, quad: u32) -> u32
+    requires quad_bound { quad < bank_quads_of layout.geometry }
+    ensures { result ≡ programmed_at_of layout.geometry quad }
 {
-    let boot = boot_quads(g);
+    let boot = layout.boot_quads();
     if quad < boot {
-        g.p * page_quads(g) + quad
+        layout.geometry.p * layout.page_quads() + quad
     } else {
         quad - boot
     }
@@ -103,27 +103,25 @@ fn programmed_at(g: Geometry, quad: u32) -> u32
 
 // The place of the store of a word of the image to its NVMDATA register.
 #[tactic(auto, unfolding(crate::specs::Reach::data_place_of))]
-fn data_place(g: Geometry, i: u32) -> u32
-    requires in_range { InRange g }
-    requires i_bound { i < bank_words_of g }
-    ensures { result ≡ data_place_of g i }
+fn data_place(layout: Layout, i: u32) -> u32
+    requires i_bound { i < bank_words_of layout.geometry }
+    ensures { result ≡ data_place_of layout.geometry i }
 {
-    let programming = 12 + pages(g) * (8 + page_quads(g));
-    programming + programmed_at(g, i / 4) * 13 + (1 + i % 4)
+    let programming = 12 + layout.pages() * (8 + layout.page_quads());
+    programming + programmed_at(layout, i / 4) * 13 + (1 + i % 4)
 }
 
 #[tactic(auto, unfolding(crate::specs::Reach::answer_of))]
-fn answer_of(g: Geometry, d: Difference) -> ReachAnswer
-    requires in_range { InRange g }
-    requires lowest_bound { d.lowest < bank_words_of g }
-    ensures { result ≡ answer_of g d }
+fn answer_of(layout: Layout, d: Difference) -> ReachAnswer
+    requires lowest_bound { d.lowest < bank_words_of layout.geometry }
+    ensures { result ≡ answer_of layout.geometry d }
 {
     if d.count != 1 {
         ReachAnswer::Words(d)
-    } else if d.lowest / 4 == sequence_quad(g) {
+    } else if d.lowest / 4 == sequence_quad(layout) {
         ReachAnswer::NoAction
     } else {
-        ReachAnswer::Action(data_place(g, d.lowest))
+        ReachAnswer::Action(data_place(layout, d.lowest))
     }
 }
 

@@ -1,10 +1,10 @@
 // Flash reads.
 #![tactic(auto)]
 
-ghost use Rattle.std.specs.Prelude.{◌≡◌, ◌<◌, true, length, Ok, Err, MatchResult};
+ghost use Rattle.std.specs.Prelude.{◌≡◌, ◌<◌, true, length, IfOk};
 ghost use Rattle.words.specs.Quad.{word_at};
-ghost use Rattle.words.specs.Decline.{accepted_of};
-ghost use Rattle.geometry.specs.Banks.{InRange, bank_words_of};
+ghost use Rattle.words.specs.Decline.{verdict_from, accepted_of};
+ghost use Rattle.geometry.specs.Banks.{bank_words_of};
 ghost use Rattle.map.specs.Windows.{window_bytes_of, locate_of, word_index_of};
 ghost use Rattle.map.specs.Location.{stands_of};
 ghost use Rattle.device.specs.State.{state, lent, bank_of};
@@ -20,6 +20,7 @@ use device::registers::Nvmcon;
 use flash::effect::{second_at, step_location};
 use flash::step::step_accepted;
 use geometry::banks::Geometry;
+use geometry::layout::Layout;
 use geometry::lent::Lent;
 use map::{Location, locate};
 use nvmop::{length, op};
@@ -36,10 +37,9 @@ pub struct FlashWord {
 
 // Whether no running operation targets the bank.
 #[tactic(auto, unfolding(crate::specs::Read::free_of))]
-fn is_free(g: Geometry, d: Device, second: bool) -> bool
-    requires in_range { InRange g }
-    requires d_value { possible_of g d ≡ true }
-    ensures { result ≡ free_of g d second }
+fn is_free(layout: Layout, d: Device, second: bool) -> bool
+    requires { possible_of layout.geometry d ≡ true }
+    ensures { result ≡ free_of layout.geometry d second }
 {
     if !has(d.nvmcon.0, Nvmcon::WR) {
         return true;
@@ -47,7 +47,7 @@ fn is_free(g: Geometry, d: Device, second: bool) -> bool
     if op(d) == BOTH_ERASE {
         return false;
     }
-    second_at(d, step_location(g, d)) != second
+    second_at(d, step_location(layout, d)) != second
 }
 
 // Where the word of a read stands that is not declined.
@@ -59,13 +59,13 @@ fn read_location(
     two: usize,
     sram: usize,
     address: u32,
-) -> Result<Location, Decline>
-    ensures { MatchResult result (λ l. (flash_read_decline_of g d one two sram address ≡ Ok tt) × (stands_of l ≡ locate_of g address))
-        (λ e. flash_read_decline_of g d one two sram address ≡ Err e) }
+) -> Result<(Layout, Location), Decline>
+    ensures verdict { verdict_from result ≡ flash_read_decline_of g d one two sram address }
+    ensures found { IfOk result (λ r. (r.0.geometry ≡ g) × (stands_of r.1 ≡ locate_of g address)) }
 {
-    common_decline(g, d, Lent::Banks(one, two), sram)?;
-    match locate(g, address) {
-        Some(l) if address % 4 == 0 => Ok(l),
+    let layout = common_decline(g, d, Lent::Banks(one, two), sram)?;
+    match locate(layout, address) {
+        Some(l) if address % 4 == 0 => Ok((layout, l)),
         _ => Err(Decline::Address),
     }
 }
@@ -73,20 +73,20 @@ fn read_location(
 // Steps with an SRAM while WR is set, at most `count` of them, and whether the last of them gave an event. None is
 // declined: each leaves a possible device.
 fn steps(
-    g: Geometry,
+    layout: Layout,
     d: Device,
     one: &mut [u32],
     two: &mut [u32],
     sram: &[u32],
     count: u32,
 ) -> Outcome
-    requires { accepted_of (step_decline_of g d (length one.old) (length two.old) (length sram.now)) ≡ true }
+    requires { accepted_of (step_decline_of layout.geometry d (length one.old) (length two.old) (length sram.now)) ≡ true }
     ensures { stepped (state result.device one.new two.new) result.event
-        ≡ steps_of g sram.now count (state d one.old two.old) }
+        ≡ steps_of layout.geometry sram.now count (state d one.old two.old) }
 {
     let mut device = d;
     for _ in 0..count {
-        let a = step_accepted(g, device, one, two, sram);
+        let a = step_accepted(layout, device, one, two, sram);
         if !has(a.device.nvmcon.0, Nvmcon::WR) {
             return a;
         }
@@ -99,14 +99,13 @@ fn steps(
 }
 
 // The word at a place of the four windows.
-fn word_read(g: Geometry, d: Device, one: &[u32], two: &[u32], l: Location) -> u32
-    requires in_range { InRange g }
-    requires one_len { (length one.now ≡ bank_words_of g) × (length two.now ≡ bank_words_of g) }
-    requires room { l.offset < window_bytes_of g l.program }
-    ensures { result ≡ word_at (bank_of (lent d one.entry two.entry) (second_at_of d (stands_of l))) (word_index_of g (stands_of l)) }
+fn word_read(layout: Layout, d: Device, one: &[u32], two: &[u32], l: Location) -> u32
+    requires one_len { (length one.now ≡ bank_words_of layout.geometry) × (length two.now ≡ bank_words_of layout.geometry) }
+    requires room { l.offset < window_bytes_of layout.geometry l.program }
+    ensures { result ≡ word_at (bank_of (lent d one.entry two.entry) (second_at_of d (stands_of l))) (word_index_of layout.geometry (stands_of l)) }
 {
     let bank = if second_at(d, l) { two } else { one };
-    bank[l.word_index(g) as usize]
+    bank[l.word_index(layout) as usize]
 }
 
 // A flash read: of a bank that the running operation works on it first carries out the steps that remain.
@@ -121,17 +120,17 @@ pub fn flash_read(
 ) -> Result<FlashWord, Decline>
     ensures { reading_from d result one.new two.new ≡ flash_read_of g (state d one.old two.old) sram.now address }
 {
-    let l = read_location(g, d, one.len(), two.len(), sram.len(), address)?;
-    let waited = if is_free(g, d, second_at(d, l)) {
+    let (layout, l) = read_location(g, d, one.len(), two.len(), sram.len(), address)?;
+    let waited = if is_free(layout, d, second_at(d, l)) {
         Outcome {
             device: d,
             event: false,
         }
     } else {
-        steps(g, d, one, two, sram, length(g, op(d)) - d.step)
+        steps(layout, d, one, two, sram, length(layout, op(d)) - d.step)
     };
     Ok(FlashWord {
-        word: word_read(g, waited.device, one, two, l),
+        word: word_read(layout, waited.device, one, two, l),
         event: waited.event,
         device: waited.device,
     })

@@ -1,9 +1,10 @@
 // Resets: the tear of a running step, the registers by kind, the comparison of the banks.
 #![tactic(auto)]
 
-ghost use Rattle.std.specs.Prelude.{◌≡◌, true, length, Ok, Err, MatchResult};
+ghost use Rattle.std.specs.Prelude.{◌≡◌, true, length, IfOk};
+ghost use Rattle.words.specs.Decline.{verdict_from};
 ghost use Rattle.sequence.specs.Comparison.{comparison_from};
-ghost use Rattle.geometry.specs.Banks.{InRange, bank_words_of};
+ghost use Rattle.geometry.specs.Banks.{bank_words_of};
 ghost use Rattle.common_declines.specs.Possible.{possible_of};
 ghost use Rattle.device.specs.State.{state};
 ghost use Rattle.resets.specs.Kind.{kind_number_of};
@@ -19,6 +20,7 @@ use device::registers::{Nvmbwp, Nvmcon, Nvmcon2, Nvmpwp, reset_value};
 use flash::effect::{next_effect, old_quad};
 use flash::write::{Write, apply};
 use geometry::banks::Geometry;
+use geometry::layout::Layout;
 use geometry::lent::Lent;
 use sequence::comparison::{Comparison, Reason, compare};
 use sequence::sequence_index;
@@ -42,25 +44,24 @@ fn reset_kind(
     two: usize,
     sram: usize,
     kind: u32,
-) -> Result<Kind, Decline>
-    ensures { MatchResult result (λ k. (reset_decline_of g d one two sram kind ≡ Ok tt) × (kind ≡ kind_number_of k))
-        (λ e. reset_decline_of g d one two sram kind ≡ Err e) }
+) -> Result<(Layout, Kind), Decline>
+    ensures verdict { verdict_from result ≡ reset_decline_of g d one two sram kind }
+    ensures known { IfOk result (λ r. (r.0.geometry ≡ g) × (kind ≡ kind_number_of r.1)) }
 {
-    common_decline(g, d, Lent::Banks(one, two), sram)?;
-    Kind::try_from(kind)
+    let layout = common_decline(g, d, Lent::Banks(one, two), sram)?;
+    Ok((layout, Kind::try_from(kind)?))
 }
 
 // Tears the quad of the next step where an operation runs.
-fn tear(g: Geometry, d: Device, one: &mut [u32], two: &mut [u32], sram: &[u32], mask: [u32; 4])
-    requires in_range { InRange g }
-    requires d_value { possible_of g d ≡ true }
-    requires one_len { (length one.old ≡ bank_words_of g) × (length two.old ≡ bank_words_of g) }
-    ensures { state d one.new two.new ≡ tear_of g (state d one.old two.old) sram.now mask }
+fn tear(layout: Layout, d: Device, one: &mut [u32], two: &mut [u32], sram: &[u32], mask: [u32; 4])
+    requires d_value { possible_of layout.geometry d ≡ true }
+    requires one_len { (length one.old ≡ bank_words_of layout.geometry) × (length two.old ≡ bank_words_of layout.geometry) }
+    ensures { state d one.new two.new ≡ tear_of layout.geometry (state d one.old two.old) sram.now mask }
 {
     if !has(d.nvmcon.0, Nvmcon::WR) {
         return;
     }
-    let write = next_effect(g, d, one, two, sram).write;
+    let write = next_effect(layout, d, one, two, sram).write;
     if let Some(words) = write.words {
         let old = old_quad(one, two, write.second, write.quad);
         let torn = Write {
@@ -72,12 +73,11 @@ fn tear(g: Geometry, d: Device, one: &mut [u32], two: &mut [u32], sram: &[u32], 
 }
 
 // The comparison of the two banks. No call of the device: its callers judge the lengths first.
-pub fn compared(g: Geometry, one: &[u32], two: &[u32]) -> Comparison
-    requires in_range { InRange g }
-    requires one_len { (length one.now ≡ bank_words_of g) × (length two.now ≡ bank_words_of g) }
-    ensures { comparison_from result ≡ comparison_of g one.now two.now }
+pub fn compared(layout: Layout, one: &[u32], two: &[u32]) -> Comparison
+    requires { (length one.now ≡ bank_words_of layout.geometry) × (length two.now ≡ bank_words_of layout.geometry) }
+    ensures { comparison_from result ≡ comparison_of layout.geometry one.now two.now }
 {
-    let i = sequence_index(g) as usize;
+    let i = sequence_index(layout) as usize;
     compare(one[i], two[i])
 }
 
@@ -130,9 +130,9 @@ pub fn reset(
 ) -> Result<AfterReset, Decline>
     ensures { explained_from d result one.new two.new ≡ explained_of g (state d one.old two.old) sram.now kind mask }
 {
-    let kind = reset_kind(g, d, one.len(), two.len(), sram.len(), kind)?;
-    tear(g, d, one, two, sram, mask);
-    let c = compared(g, one, two);
+    let (layout, kind) = reset_kind(g, d, one.len(), two.len(), sram.len(), kind)?;
+    tear(layout, d, one, two, sram, mask);
+    let c = compared(layout, one, two);
     Ok(AfterReset {
         device: reset_device(d, kind, c.second),
         reason: c.reason,

@@ -4,10 +4,10 @@
 
 ghost use Rattle.std.specs.Prelude.{◌≡◌, ◌≤◌, ◌<◌, eqb, length, get_or};
 ghost use Rattle.words.specs.Word.{any_below};
-ghost use Rattle.geometry.specs.Banks.{InRange};
 ghost use Rattle.row_judge.specs.Judge.{in_row_of, entry_stands_of, queue_stands_of, StartsOf, apart_of, bank_stands_of, banks_stand_of, row_stands_of, row_decline_of};
 
-use geometry::banks::{Geometry, bank_words};
+use geometry::banks::Geometry;
+use geometry::layout::Layout;
 use geometry::lent::{Lent, lent_decline};
 use row_signs::queue::Queue;
 use row_signs::row::Row;
@@ -145,7 +145,7 @@ fn banks_stand(row: Row, n: usize, words: usize, store: usize) -> bool
 // Whether none of the conditions of 19 applies.
 #[tactic(auto, unfolding(crate::specs::Judge::row_stands_of))]
 fn row_stands(
-    g: Geometry,
+    layout: Layout,
     k: u32,
     row: Row,
     n: usize,
@@ -153,8 +153,7 @@ fn row_stands(
     last: u32,
     store: usize,
 ) -> bool
-    requires { InRange g }
-    ensures { result ≡ row_stands_of g k row.signs n queue last store }
+    ensures { result ≡ row_stands_of layout.geometry k row.signs n queue last store }
 {
     if !in_row(n) {
         return false;
@@ -168,7 +167,7 @@ fn row_stands(
     if !queue_stands(queue, n) {
         return false;
     }
-    banks_stand(row, n, bank_words(g) as usize, store)
+    banks_stand(row, n, layout.bank_words() as usize, store)
 }
 
 // Which of declines 1, 2 and 19 applies.

@@ -1,12 +1,12 @@
 // The search round the list: how a record stands, which one it serves, and who begins to wait.
 ghost use Rattle.std.specs.Prelude.{◌≡◌, false, ◌++◌, ◌≤◌, ◌<◌, get_or};
-ghost use Rattle.geometry.specs.Banks.{InRange};
 ghost use Rattle.row_signs.specs.Signs.{waiting_of, queue_of};
 ghost use Rattle.row_turn.specs.SignTurn.{Lies};
 ghost use Rattle.row_choice.specs.Choice.{records_of};
 ghost use Rattle.row_schedule.specs.Round.{RowSound, QueueSound, MarksNew, stand_of, stands_of, Searched};
 
 use geometry::banks::Geometry;
+use geometry::layout::Layout;
 use row_judge::is_listed;
 use row_queue::{join, without};
 use row_signs::queue::Queue;
@@ -31,7 +31,7 @@ pub struct Search {
 // How a sign stands to be served: record j.
 #[tactic(auto, unfolding(crate::specs::Round::stand_of))]
 fn stand_of(
-    g: Geometry,
+    layout: Layout,
     queue: Queue,
     full: bool,
     store: &[u32],
@@ -40,13 +40,12 @@ fn stand_of(
     s: Sign,
     j: usize,
 ) -> Stand
-    requires in_range { InRange g }
     requires count_bound { queue.count ≤ 32 }
-    requires lies { Lies g store.now s }
+    requires lies { Lies layout.geometry store.now s }
     requires j_bound { j < 32 }
-    ensures { result ≡ stand_of g queue full store.now image.now sram.now s j }
+    ensures { result ≡ stand_of layout.geometry queue full store.now image.now sram.now s j }
 {
-    let l = look_at(g, s, store, image, sram);
+    let l = look_at(layout, s, store, image, sram);
     let waits = is_listed(queue, queue.count as usize, j as u32);
     Stand {
         free: l.can & !waits,

@@ -5,7 +5,7 @@
 ghost use Rattle.std.specs.Prelude.{◌≡◌, not, ◌&&◌, ◌⊎◌, ◌+◌, ◌≤◌, length};
 ghost use Rattle.words.specs.Decline.{accepted_of};
 ghost use Rattle.device.specs.Record.{running};
-ghost use Rattle.geometry.specs.Banks.{InRange, bank_words_of};
+ghost use Rattle.geometry.specs.Banks.{bank_words_of};
 ghost use Rattle.flash.specs.Write.{Fits};
 ghost use Rattle.update.specs.Turn.{effected_of};
 ghost use Rattle.row_turn.specs.SignTurn.{part_of, sign_state_of, sign_turn_of, look_of, sign_turning, sign_turning_of, put_write_of, Lies};
@@ -13,7 +13,7 @@ ghost use Rattle.row_turn.specs.SignTurn.{part_of, sign_state_of, sign_turn_of, 
 use device::record::Device;
 use device::registers::Nvmcon;
 use flash::write::Write;
-use geometry::banks::{Geometry, bank_words};
+use geometry::layout::Layout;
 use row_signs::sign::Sign;
 use update::turn::TurnEffect;
 use update_turn::turn_effect;
@@ -36,18 +36,17 @@ pub struct SignTurned {
 }
 
 // What a sign's turn does, from its two parts of the store, both only read.
-fn sign_effect(g: Geometry, s: Sign, store: &[u32], image: &[u32], sram: &[u32]) -> TurnEffect
-    requires in_range { InRange g }
-    requires lies { Lies g store.now s }
-    ensures result_value { effected_of (sign_state_of g store.now s) result ≡ sign_turn_of g store.now image.now sram.now s }
-    ensures fits { Fits (part_of store.now s.one (bank_words_of g)) (part_of store.now s.two (bank_words_of g)) result.write }
+fn sign_effect(layout: Layout, s: Sign, store: &[u32], image: &[u32], sram: &[u32]) -> TurnEffect
+    requires lies { Lies layout.geometry store.now s }
+    ensures result_value { effected_of (sign_state_of layout.geometry store.now s) result ≡ sign_turn_of layout.geometry store.now image.now sram.now s }
+    ensures fits { Fits (part_of store.now s.one (bank_words_of layout.geometry)) (part_of store.now s.two (bank_words_of layout.geometry)) result.write }
 {
-    let words = bank_words(g) as usize;
+    let words = layout.bank_words() as usize;
     let one = s.one as usize;
     let two = s.two as usize;
     let d = s.device;
     turn_effect(
-        g,
+        layout,
         d,
         &store[one..one + words],
         &store[two..two + words],
@@ -78,12 +77,11 @@ fn sets_wr(before: Device, after: Device) -> bool
 }
 
 // What a sign's turn would do, for the choice.
-pub fn look_at(g: Geometry, s: Sign, store: &[u32], image: &[u32], sram: &[u32]) -> Look
-    requires in_range { InRange g }
-    requires lies { Lies g store.now s }
-    ensures { result ≡ look_of g store.now image.now sram.now s }
+pub fn look_at(layout: Layout, s: Sign, store: &[u32], image: &[u32], sram: &[u32]) -> Look
+    requires lies { Lies layout.geometry store.now s }
+    ensures { result ≡ look_of layout.geometry store.now image.now sram.now s }
 {
-    let e = sign_effect(g, s, store, image, sram);
+    let e = sign_effect(layout, s, store, image, sram);
     let t = e.turned;
     let decline = t.decline;
     let can = goes_on(decline, t.done);
@@ -112,18 +110,17 @@ fn put_write(store: &mut [u32], one: usize, two: usize, words: usize, w: Write)
 }
 
 // A sign's turn: its record taken, turned by value, and given back.
-pub fn serve(g: Geometry, s: Sign, store: &mut [u32], image: &[u32], sram: &[u32]) -> SignTurned
-    requires in_range { InRange g }
-    requires lies { Lies g store.old s }
-    ensures { sign_turning result store.new ≡ sign_turning_of g store.old image.now sram.now s }
+pub fn serve(layout: Layout, s: Sign, store: &mut [u32], image: &[u32], sram: &[u32]) -> SignTurned
+    requires lies { Lies layout.geometry store.old s }
+    ensures { sign_turning result store.new ≡ sign_turning_of layout.geometry store.old image.now sram.now s }
 {
-    let e = sign_effect(g, s, store, image, sram);
+    let e = sign_effect(layout, s, store, image, sram);
     let write = e.write;
     put_write(
         store,
         s.one as usize,
         s.two as usize,
-        bank_words(g) as usize,
+        layout.bank_words() as usize,
         write,
     );
     let t = e.turned;

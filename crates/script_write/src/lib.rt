@@ -4,13 +4,14 @@
 
 ghost use Rattle.std.specs.Prelude.{◌≡◌, ◌*◌, ◌≤◌, length};
 ghost use Rattle.std.proofs.lemmas.List.Edits.{sets};
-ghost use Rattle.geometry.specs.Banks.{InRange, bank_words_of};
+ghost use Rattle.geometry.specs.Banks.{bank_words_of};
 ghost use Rattle.device.specs.State.{lent};
 ghost use Rattle.update.specs.Actions.{recorded, total_of};
 ghost use Rattle.script_write.specs.Script.{script_of, write_script_decline_of, writing_from, write_script_of};
 
 use device::record::Device;
 use geometry::banks::Geometry;
+use geometry::layout::Layout;
 use script_format::{Record, put_record};
 use update::actions::Action;
 use update_actions::actions::{action_at, total};
@@ -44,14 +45,13 @@ fn record_of(action: Action) -> Record
 }
 
 // Writes the record of every action, for the old bank's sequence word w.
-fn put_actions(out: &mut [u8], g: Geometry, image: &[u32], w: u32)
-    requires in_range { InRange g }
-    requires image_len { length image.now ≡ bank_words_of g }
-    requires g_in_bounds { 8 * total_of g ≤ length out.old }
-    ensures { out.new ≡ sets out.old 0 (script_of g image.now w) }
+fn put_actions(out: &mut [u8], layout: Layout, image: &[u32], w: u32)
+    requires image_len { length image.now ≡ bank_words_of layout.geometry }
+    requires g_in_bounds { 8 * total_of layout.geometry ≤ length out.old }
+    ensures { out.new ≡ sets out.old 0 (script_of layout.geometry image.now w) }
 {
-    for place in 0..total(g) {
-        let action = action_at(g, image, w, place);
+    for place in 0..total(layout) {
+        let action = action_at(layout, image, w, place);
         put_record(out, RECORD_BYTES * place as usize, record_of(action));
     }
 }

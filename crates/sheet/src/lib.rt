@@ -4,13 +4,14 @@
 
 ghost use Rattle.std.specs.Prelude.{◌≡◌, ◌+◌, ◌*◌, ◌≤◌, length};
 ghost use Rattle.std.proofs.lemmas.List.Edits.{sets};
-ghost use Rattle.geometry.specs.Banks.{InRange, pages_of, bank_words_of};
+ghost use Rattle.geometry.specs.Banks.{pages_of, bank_words_of};
 ghost use Rattle.sheet_page.specs.State.{kind_pages_of};
 ghost use Rattle.sheet.specs.Sheet.{kind_lines_of, bank_lines_of, page_sheet_decline_of, given, page_sheet_of};
 
 use common_declines::common_decline::common_decline;
 use device::record::Device;
-use geometry::banks::{Geometry, pages};
+use geometry::banks::Geometry;
+use geometry::layout::Layout;
 use geometry::lent::Lent;
 use sheet_line::{LINE_BYTES, put_line};
 use sheet_page::{kind_pages, page_state};
@@ -27,41 +28,39 @@ pub struct Written {
 fn put_kind(
     out: &mut [u8],
     at: usize,
-    g: Geometry,
+    layout: Layout,
     d: Device,
     bank: &[u32],
     second: bool,
     program: bool,
 )
-    requires in_range { InRange g }
-    requires bank_len { length bank.now ≡ bank_words_of g }
-    requires program_in_bounds { at + 17 * kind_pages_of g program ≤ length out.old }
-    ensures { out.new ≡ sets out.old at (kind_lines_of g d bank.now second program) }
+    requires bank_len { length bank.now ≡ bank_words_of layout.geometry }
+    requires program_in_bounds { at + 17 * kind_pages_of layout.geometry program ≤ length out.old }
+    ensures { out.new ≡ sets out.old at (kind_lines_of layout.geometry d bank.now second program) }
 {
-    let count = kind_pages(g, program);
+    let count = kind_pages(layout, program);
     let mut page = 0;
     while page < count {
         put_line(
             out,
             at + LINE_BYTES * page as usize,
-            page_state(g, d, bank, second, program, page),
+            page_state(layout, d, bank, second, program, page),
         );
         page += 1;
     }
 }
 
 // Writes the lines of a bank at a position: its boot pages, then its program pages.
-fn put_bank(out: &mut [u8], at: usize, g: Geometry, d: Device, bank: &[u32], second: bool)
-    requires in_range { InRange g }
-    requires bank_len { length bank.now ≡ bank_words_of g }
-    requires g_in_bounds { at + 17 * pages_of g ≤ length out.old }
-    ensures { out.new ≡ sets out.old at (bank_lines_of g d bank.now second) }
+fn put_bank(out: &mut [u8], at: usize, layout: Layout, d: Device, bank: &[u32], second: bool)
+    requires bank_len { length bank.now ≡ bank_words_of layout.geometry }
+    requires g_in_bounds { at + 17 * pages_of layout.geometry ≤ length out.old }
+    ensures { out.new ≡ sets out.old at (bank_lines_of layout.geometry d bank.now second) }
 {
-    put_kind(out, at, g, d, bank, second, false);
+    put_kind(out, at, layout, d, bank, second, false);
     put_kind(
         out,
-        at + LINE_BYTES * g.b as usize,
-        g,
+        at + LINE_BYTES * layout.geometry.b as usize,
+        layout,
         d,
         bank,
         second,

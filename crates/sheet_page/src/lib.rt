@@ -3,12 +3,13 @@
 #![tactic(auto)]
 
 ghost use Rattle.std.specs.Prelude.{◌≡◌, ◌+◌, ◌*◌, ◌≤◌, ◌<◌, length};
-ghost use Rattle.geometry.specs.Banks.{InRange, bank_words_of};
+ghost use Rattle.geometry.specs.Banks.{bank_words_of};
 ghost use Rattle.sheet_page.specs.State.{used_quads_of, swap_of, upper_of, kind_pages_of, page_index_of, page_state_of};
 
 use device::record::Device;
 use device::registers::Nvmcon;
-use geometry::banks::{Geometry, page_quads};
+use geometry::banks::Geometry;
+use geometry::layout::Layout;
 use protection::is_protected;
 use words::quad::{is_blank, quad_at};
 use words::word::has;
@@ -62,37 +63,35 @@ pub fn kind_pages(g: Geometry, program: bool) -> u32
 }
 
 // The number of a page in its bank: the boot pages come first.
-fn page_index(g: Geometry, program: bool, page: u32) -> u32
-    requires in_range { InRange g }
-    requires page_bound { page < kind_pages_of g program }
-    ensures { result ≡ page_index_of g program page }
+fn page_index(layout: Layout, program: bool, page: u32) -> u32
+    requires page_bound { page < kind_pages_of layout.geometry program }
+    ensures { result ≡ page_index_of layout.geometry program page }
 {
-    if program { g.b + page } else { page }
+    if program { layout.geometry.b + page } else { page }
 }
 
 // What the sheet says of a page of a bank.
 pub fn page_state(
-    g: Geometry,
+    layout: Layout,
     d: Device,
     bank: &[u32],
     second: bool,
     program: bool,
     page: u32,
 ) -> PageState
-    requires in_range { InRange g }
-    requires bank_len { length bank.now ≡ bank_words_of g }
-    requires page_bound { page < kind_pages_of g program }
-    ensures { result ≡ page_state_of g d bank.now second program page }
+    requires bank_len { length bank.now ≡ bank_words_of layout.geometry }
+    requires page_bound { page < kind_pages_of layout.geometry program }
+    ensures { result ≡ page_state_of layout.geometry d bank.now second program page }
 {
     let upper = is_upper(d, second, program);
-    let count = page_quads(g) as usize;
-    let first = page_index(g, program, page) as usize * count;
+    let count = layout.page_quads() as usize;
+    let first = page_index(layout, program, page) as usize * count;
     PageState {
         second,
         program,
         page: page as usize,
         upper,
-        protected: is_protected(g, d, program, upper, page),
+        protected: is_protected(layout, d, program, upper, page),
         quads: used_quads(bank, first, count),
     }
 }

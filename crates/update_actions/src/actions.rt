@@ -1,23 +1,22 @@
 // The actions of an update, by place.
 // What asks for InRange, or for a place of its list, is no call of the updater: its callers judge their declines first.
 ghost use Rattle.std.specs.Prelude.{◌≡◌, ◌+◌, ◌<◌, length, get_or};
-ghost use Rattle.geometry.specs.Banks.{InRange, pages_of, bank_words_of};
+ghost use Rattle.geometry.specs.Banks.{pages_of, bank_words_of};
 ghost use Rattle.update.specs.declared.actions.Action.TheVariants.{Step};
 ghost use Rattle.update.specs.Actions.{prologue, stored, launch_stores, erased_page_of, total_of, page_action_of, action_at_of};
 
 use crate::programming::{quad_action, upper_address};
 use device::numbers::{CLEAR, KEY1, KEY2, KEY3, PAGE_ERASE, PLAIN, SET};
 use device::registers::{NVMADDR, NVMKEY, Nvmbwp, Nvmcon};
-use geometry::banks::{Geometry, page_quads, pages};
+use geometry::layout::Layout;
 use update::actions::Action;
 
 // How many actions an update has.
 #[tactic(auto, unfolding(update::specs::Actions::total_of))]
-pub fn total(g: Geometry) -> u32
-    requires { InRange g }
-    ensures { result ≡ total_of g }
+pub fn total(layout: Layout) -> u32
+    ensures { result ≡ total_of layout.geometry }
 {
-    12 + 8 * pages(g) + 112 * (pages(g) * g.q)
+    12 + 8 * layout.pages() + 112 * (layout.pages() * layout.geometry.q)
 }
 
 // The prologue: errors cleared by a launch of NVMOP 0, and the upper alias freed.
@@ -58,14 +57,13 @@ pub fn launch_action(op: u32, k: u32) -> Action
 
 // Page i of the erasing, by its number in the bank.
 #[tactic(auto, unfolding(update::specs::Actions::erased_page_of))]
-fn erased_page(g: Geometry, i: u32) -> u32
-    requires { InRange g }
-    ensures { result ≡ erased_page_of g i }
+fn erased_page(layout: Layout, i: u32) -> u32
+    ensures { result ≡ erased_page_of layout.geometry i }
 {
     if i == 0 {
-        return g.b - 1;
+        return layout.geometry.b - 1;
     }
-    if i < g.b {
+    if i < layout.geometry.b {
         return i - 1;
     }
     i
@@ -73,18 +71,17 @@ fn erased_page(g: Geometry, i: u32) -> u32
 
 // Action k of a page of the bank: its stores, its steps, its end.
 #[tactic(auto, unfolding(update::specs::Actions::page_action_of))]
-fn page_action(g: Geometry, page: u32, k: u32) -> Action
-    requires in_range { InRange g }
-    requires page_bound { page < pages_of g }
-    ensures { result ≡ page_action_of g page k }
+fn page_action(layout: Layout, page: u32, k: u32) -> Action
+    requires page_bound { page < pages_of layout.geometry }
+    ensures { result ≡ page_action_of layout.geometry page k }
 {
     if k == 0 {
-        return Action::Store(NVMADDR, PLAIN, upper_address(g, page * page_quads(g)));
+        return Action::Store(NVMADDR, PLAIN, upper_address(layout, page * layout.page_quads()));
     }
     if k < 7 {
         return launch_action(PAGE_ERASE, k - 1);
     }
-    if k < 7 + page_quads(g) {
+    if k < 7 + layout.page_quads() {
         return Action::Step;
     }
     Action::Store(Nvmcon::NUMBER, CLEAR, Nvmcon::WREN)
@@ -92,21 +89,20 @@ fn page_action(g: Geometry, page: u32, k: u32) -> Action
 
 // The action of a place.
 #[tactic(auto, unfolding(update::specs::Actions::action_at_of))]
-pub fn action_at(g: Geometry, image: &[u32], w: u32, place: u32) -> Action
-    requires in_range { InRange g }
-    requires image_len { length image.now ≡ bank_words_of g }
-    requires place_bound { place < total_of g }
-    ensures { result ≡ action_at_of g image.now w place }
+pub fn action_at(layout: Layout, image: &[u32], w: u32, place: u32) -> Action
+    requires image_len { length image.now ≡ bank_words_of layout.geometry }
+    requires place_bound { place < total_of layout.geometry }
+    ensures { result ≡ action_at_of layout.geometry image.now w place }
 {
     if place < 12 {
         return prologue_action(place);
     }
-    let block = 8 + page_quads(g);
-    let programming = 12 + pages(g) * block;
+    let block = 8 + layout.page_quads();
+    let programming = 12 + layout.pages() * block;
     if place < programming {
         let from = place - 12;
-        return page_action(g, erased_page(g, from / block), from % block);
+        return page_action(layout, erased_page(layout, from / block), from % block);
     }
     let from = place - programming;
-    quad_action(g, image, w, from / 13, from % 13)
+    quad_action(layout, image, w, from / 13, from % 13)
 }

@@ -2,7 +2,7 @@
 #![tactic(auto)]
 
 ghost use Rattle.std.specs.Prelude.{◌≡◌, length};
-ghost use Rattle.geometry.specs.Banks.{InRange, bank_words_of};
+ghost use Rattle.geometry.specs.Banks.{bank_words_of};
 ghost use Rattle.device.specs.State.{lent};
 ghost use Rattle.update.specs.Answers.{started_from};
 ghost use Rattle.update.specs.Start.{clash_of, sequence_allows_of, upper_free_of, start_decline_of, start_of};
@@ -10,7 +10,8 @@ ghost use Rattle.update.specs.Start.{clash_of, sequence_allows_of, upper_free_of
 use common_declines::common_decline::common_decline;
 use device::record::Device;
 use device::registers::{Nvmbwp, Nvmcon};
-use geometry::banks::{Geometry, program_bytes};
+use geometry::banks::Geometry;
+use geometry::layout::Layout;
 use geometry::lent::Lent;
 use protection::pwp;
 use resets::compared;
@@ -31,27 +32,25 @@ fn clashes(w: u32) -> bool
 
 // Whether decline 10 does not apply.
 #[tactic(auto, unfolding(update::specs::Start::sequence_allows_of))]
-fn sequence_allows(g: Geometry, d: Device, one: &[u32], two: &[u32]) -> bool
-    requires in_range { InRange g }
-    requires one_len { (length one.now ≡ bank_words_of g) × (length two.now ≡ bank_words_of g) }
-    ensures { result ≡ sequence_allows_of g (lent d one.entry two.entry) }
+fn sequence_allows(layout: Layout, d: Device, one: &[u32], two: &[u32]) -> bool
+    requires one_len { (length one.now ≡ bank_words_of layout.geometry) × (length two.now ≡ bank_words_of layout.geometry) }
+    ensures { result ≡ sequence_allows_of layout.geometry (lent d one.entry two.entry) }
 {
     let bfswap = has(d.nvmcon.0, Nvmcon::BFSWAP);
     // the lower bank of the banks exchanged is the other bank
-    let other = lower_word(g, d, two, one);
-    is_valid(lower_word(g, d, one, two))
-        && compared(g, one, two).second == bfswap
+    let other = lower_word(layout, d, two, one);
+    is_valid(lower_word(layout, d, one, two))
+        && compared(layout, one, two).second == bfswap
         && has(d.nvmcon.0, Nvmcon::PFSWAP) == bfswap
         && (is_valid(other) || clashes(other))
 }
 
 // Whether decline 12 does not apply.
 #[tactic(auto, unfolding(update::specs::Start::upper_free_of))]
-fn is_upper_free(g: Geometry, d: Device) -> bool
-    requires { InRange g }
-    ensures { result ≡ upper_free_of g d }
+fn is_upper_free(layout: Layout, d: Device) -> bool
+    ensures { result ≡ upper_free_of layout.geometry d }
 {
-    has(d.nvmbwp.0, Nvmbwp::UBWPULOCK) && pwp(d) < program_bytes(g)
+    has(d.nvmbwp.0, Nvmbwp::UBWPULOCK) && pwp(d) < layout.program_bytes()
 }
 
 #[tactic(auto, unfolding(update::specs::Start::start_decline_of), using(common_declines::proofs::CommonDeclineLaws::went_ready))]

@@ -24,35 +24,29 @@ lies : (g : Geometry) (address : ℕ) (l : Location) → InRange g → l ≡ loc
     → l.offset < window_bytes_of g l.program
 lies g address l ok e inside = rw e (stands g ok address inside).room
 
-pub is_free-requires-clause-in_range : goal.is_free-requires-clause-in_range
-is_free-requires-clause-in_range c = (read_ready _ _ _ _ _ _ (ap accepted_of c.in_ok-l.ensures.0)).0.lent.range
-
-pub is_free-requires-clause-d_value : goal.is_free-requires-clause-d_value
-is_free-requires-clause-d_value c = (read_ready _ _ _ _ _ _ (ap accepted_of c.in_ok-l.ensures.0)).0.possible
-
-pub length-requires : goal.length-requires
-length-requires c = (read_ready _ _ _ _ _ _ (ap accepted_of c.in_ok-l.ensures.0)).0.lent.range
+pub is_free-requires : goal.is_free-requires
+is_free-requires c =
+    rw c.in_ok-layout.ensures.found.0 (read_ready _ _ _ _ _ _ (sym (ap accepted_of c.in_ok-layout.ensures.verdict))).0.possible
 
 pub overflow_sub-length : goal.overflow_sub-length
 overflow_sub-length c =
-    let r = (read_ready _ _ _ _ _ _ (ap accepted_of c.in_ok-l.ensures.0)).0 in
-    let run = runs c.args.g c.args.d r.lent.range r.possible (busy _ _ _ _ c.is_free.ensures c.if-is_free.false) in
+    let found = c.in_ok-layout in
+    let possible = (read_ready _ _ _ _ _ _ (sym (ap accepted_of found.ensures.verdict))).0.possible in
+    let run = runs found.layout.geometry c.args.d found.layout.in_range (rw found.ensures.found.0 possible) (busy _ _ _ _ c.is_free.ensures c.if-is_free.false) in
     rw (c.length.ensures, c.op.ensures) (omega (arith, run.below))
 
 pub steps-waited-requires : goal.steps-waited-requires
 steps-waited-requires c =
-    let r = (read_ready _ _ _ _ _ _ (ap accepted_of c.in_ok-l.ensures.0)).0 in
-    step_accepts _ _ _ _ _ r (busy _ _ _ _ c.is_free.ensures c.if-is_free.false)
-
-pub word_read-requires-clause-in_range : goal.word_read-requires-clause-in_range
-word_read-requires-clause-in_range c = (read_ready _ _ _ _ _ _ (ap accepted_of c.in_ok-l.ensures.0)).0.lent.range
+    let r = (read_ready _ _ _ _ _ _ (sym (ap accepted_of c.in_ok-layout.ensures.verdict))).0 in
+    let on = busy _ _ _ _ c.is_free.ensures c.if-is_free.false in
+    rw c.in_ok-layout.ensures.found.0 (step_accepts _ _ _ _ _ r on)
 
 pub word_read-requires-clause-one_len : goal.word_read-requires-clause-one_len
 word_read-requires-clause-one_len c =
-    let r = (read_ready _ _ _ _ _ _ (ap accepted_of c.in_ok-l.ensures.0)).0 in
-    (c.if-is_free.auto.one ∙ r.lent.banks.0, c.if-is_free.auto.two ∙ r.lent.banks.1.0)
+    let r = (read_ready _ _ _ _ _ _ (sym (ap accepted_of c.in_ok-layout.ensures.verdict))).0 in
+    rw c.in_ok-layout.ensures.found.0 (c.if-is_free.auto.one ∙ r.lent.banks.0, c.if-is_free.auto.two ∙ r.lent.banks.1.0)
 
 pub word_read-requires-clause-room : goal.word_read-requires-clause-room
 word_read-requires-clause-room c =
-    let (r, inside) = read_ready _ _ _ _ _ _ (ap accepted_of c.in_ok-l.ensures.0) in
-    lies _ _ _ r.lent.range c.in_ok-l.ensures.1 inside
+    let (r, inside) = read_ready _ _ _ _ _ _ (sym (ap accepted_of c.in_ok-layout.ensures.verdict)) in
+    rw c.in_ok-layout.ensures.found.0 (lies _ _ _ r.lent.range c.in_ok-layout.ensures.found.1 inside)

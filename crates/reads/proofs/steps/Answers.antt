@@ -32,7 +32,7 @@ returns-then-not-has c =
     let l = c.loop in
     let new = c.step_accepted-a.new in
     let r = c.step_accepted-a.result in
-    ended c.args.g c.args.sram.now (state l.device l.one l.two) (leaves (advanced r.device r.event) new.one new.two) c.step_accepted-a.ensures
+    ended c.args.layout.geometry c.args.sram.now (state l.device l.one l.two) (leaves (advanced r.device r.event) new.one new.two) c.step_accepted-a.ensures
     (c.args.count - l.counter) _ (omega arith) (sym c.has.ensures ∙ c.if-not-has.true) l.invariant.same
 
 pub loop-preserved : goal.loop-preserved
@@ -45,8 +45,8 @@ loop-preserved c =
     let going = sym c.has.ensures ∙ c.if-not-has.false in
     let left : c.args.count - (l.counter + 1) ≡ c.args.count - l.counter - 1 = omega arith in
     record {
-      same = rw left (more c.args.g c.args.sram.now s a c.step_accepted-a.ensures (c.args.count - l.counter) _ (omega arith) going l.invariant.same);
-      going = again c.args.g c.args.sram.now s a c.step_accepted-a.ensures l.invariant.going going (omega arith) (omega arith);
+      same = rw left (more c.args.layout.geometry c.args.sram.now s a c.step_accepted-a.ensures (c.args.count - l.counter) _ (omega arith) going l.invariant.same);
+      going = again c.args.layout.geometry c.args.sram.now s a c.step_accepted-a.ensures l.invariant.going going (omega arith) (omega arith);
     }
 
 pub returns : goal.returns

@@ -7,20 +7,20 @@ use Rattle.flash.proofs.AcceptedLaws.{runs}
 use Rattle.resets.proofs.tear.Goals as goal
 
 pub next_effect-requires-clause-runs : goal.next_effect-requires-clause-runs
-next_effect-requires-clause-runs c = runs c.args.g c.args.d c.requires.in_range c.requires.d_value (sym c.has.ensures ∙ c.if-not-has.false)
+next_effect-requires-clause-runs c = runs c.args.layout.geometry c.args.d c.args.layout.in_range c.requires.d_value (sym c.has.ensures ∙ c.if-not-has.false)
 
 pub old_quad-old-requires : goal.old_quad-old-requires
 old_quad-old-requires c =
     let a = c.args in
-    let on = runs a.g a.d c.requires.in_range c.requires.d_value (sym c.has.ensures ∙ c.if-not-has.false) in
-    let h = effect_in_bank a.g (state a.d a.one.now a.two.now) a.sram.now on in
+    let on = runs a.layout.geometry a.d c.args.layout.in_range c.requires.d_value (sym c.has.ensures ∙ c.if-not-has.false) in
+    let h = effect_in_bank a.layout.geometry (state a.d a.one.now a.two.now) a.sram.now on in
     let same = ap (λ (e : Effect). e.write.quad) c.next_effect.ensures in
     (omega (arith, h, same, c.requires.one_len.0), omega (arith, h, same, c.requires.one_len.1))
 
 pub apply-requires : goal.apply-requires
 apply-requires c written =
     let a = c.args in
-    let on = runs a.g a.d c.requires.in_range c.requires.d_value (sym c.has.ensures ∙ c.if-not-has.false) in
-    let h = effect_in_bank a.g (state a.d a.one.now a.two.now) a.sram.now on in
+    let on = runs a.layout.geometry a.d c.args.layout.in_range c.requires.d_value (sym c.has.ensures ∙ c.if-not-has.false) in
+    let h = effect_in_bank a.layout.geometry (state a.d a.one.now a.two.now) a.sram.now on in
     let same = ap (λ (e : Effect). e.write.quad) c.next_effect.ensures in
     (omega (arith, h, same, c.requires.one_len.0), omega (arith, h, same, c.requires.one_len.1))

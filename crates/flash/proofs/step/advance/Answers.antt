@@ -4,4 +4,4 @@ use Rattle.flash.proofs.EffectLaws.{steps_high}
 use Rattle.flash.proofs.step.advance.Goals as goal
 
 pub overflow_add-next : goal.overflow_add-next
-overflow_add-next c = omega (arith, steps_high c.args.g c.args.d c.requires)
+overflow_add-next c = omega (arith, steps_high c.args.layout.geometry c.args.d c.requires)
