@@ -22,6 +22,7 @@ const RECORD_BYTES: usize = 8;
 const MOST_RECORDS: usize = 64;
 
 // Record k of a script without one of its records; without none where that one lies past the last.
+#[tactic(auto, using(crate::proofs::WithoutLaws::record_below, crate::proofs::WithoutLaws::record_above))]
 fn record_without(script: &[u8], removed: usize, k: usize) -> Record
     requires removed_in_bounds { 8 * removed ≤ length script.now }
     requires k_in_bounds { 8 * k + 8 ≤ length (without_of script.now removed) }
