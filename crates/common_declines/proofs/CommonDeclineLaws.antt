@@ -1,11 +1,11 @@
 -- What holds where none of declines 1, 2 and 3 applies. Assumes nothing.
 use mathlib.Core.Path.{◌≡◌, refl, sym}
+use Rattle.std.specs.Prelude.{Ok}
 use mathlib.Core.Bool.{Bool, true, false}
 use mathlib.Core.List.{List, [], ◌∷◌}
 use Prim.Native.Nat.{ℕ, ◌≤◌}
 use borrow.Author.Tests.{eq-eqb, le-leb}
 use Rattle.geometry.specs.declared.banks.Geometry.{Geometry}
-use Rattle.words.specs.declared.decline.Decline.{Decline}
 use Rattle.geometry.specs.Banks.{in_range_of, bank_words_of}
 use Rattle.words.specs.Decline.{accepted_of}
 use Rattle.geometry.specs.Lent.{bank_lengths, lengths_fit_of, lent_decline_of, lent_decline_up_to}
@@ -41,6 +41,6 @@ each_fits g [] h = refl
 each_fits g (words ∷ rest) h = rw (eq-eqb words (bank_words_of g) h.0) (each_fits g rest h.1)
 
 pub opens : (g : Geometry) (d : Device) (lengths : List ℕ) (sram : ℕ) → in_range_of g ≡ true → EachBank g lengths → sram ≤ 16384 → possible_of g d ≡ true
-    → common_decline_of g d lengths sram ≡ Decline.Accepted
+    → common_decline_of g d lengths sram ≡ Ok tt
 unfolding common_decline_of lent_decline_up_to lengths_fit_of
 opens g d lengths sram listed banks room can = rw (listed, each_fits g lengths banks, le-leb sram 16384 room, can)

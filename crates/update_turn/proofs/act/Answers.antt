@@ -5,11 +5,11 @@ use Rattle.device.specs.Record.{running}
 use Rattle.device.specs.State.{state}
 use Rattle.register_access.specs.Store.{may_store_of}
 use Rattle.register_access.proofs.AcceptedLaws.{store_carried}
-use Rattle.flash.specs.declared.step.StepEffect.{StepEffect}
+use Rattle.flash.specs.Step.{StepEffect}
 use Rattle.flash.proofs.AcceptedLaws.{runs, advance_accepts}
 use Rattle.flash.proofs.EffectLaws.{effect_fits}
 use Rattle.controller.specs.Controller.{Sound}
-use Rattle.update.specs.declared.turn.TurnEffect.{TurnEffect}
+use Rattle.update.specs.Answers.{TurnEffect}
 use Rattle.update.specs.Turn.{act_of}
 use Rattle.update.proofs.FormLaws.{step_carried}
 use Rattle.update_turn.proofs.act.Goals as goal

@@ -4,14 +4,13 @@ use Rattle.std.proofs.Math.ListN.{length-take}
 use native.Mathlib.Nat.{min-le_left}
 use Rattle.geometry.specs.declared.banks.Geometry.{Geometry}
 use Rattle.geometry.specs.Banks.{page_words_of}
-use Rattle.words.specs.declared.decline.Decline.{Decline}
-use Rattle.words.specs.Decline.{accepted_of}
+use Rattle.words.specs.Decline.{Verdict, accepted_of}
 use Rattle.bank_parts.specs.Parts.{page_decline_of, page_part_of}
 use Rattle.bank_parts.proofs.AcceptedLaws.{page_lies}
 use Rattle.conformance_answers.proofs.bank_calls.page_answer.Goals as goal
 
 -- the page was accepted, since its decline was asked
-taken : (g : Geometry) (words page : ℕ) (d : Decline) (t : Bool) → d ≡ page_decline_of g words page → t ≡ accepted_of d → t ≡ true
+taken : (g : Geometry) (words page : ℕ) (d : Verdict) (t : Bool) → d ≡ page_decline_of g words page → t ≡ accepted_of d → t ≡ true
     → accepted_of (page_decline_of g words page) ≡ true
 taken g words page d t e k h = ap accepted_of (sym e) ∙ sym k ∙ h
 
