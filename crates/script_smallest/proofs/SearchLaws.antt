@@ -3,11 +3,11 @@ use Prim.Native.Nat.{ℕ, zero, suc, ◌+◌, ◌*◌, ◌%◌, ◌≤◌}
 use Rattle.std.specs.Prelude.{Ok, Err}
 use mathlib.Core.Path.{◌≡◌, refl, sym, ap, ◌∙◌}
 use mathlib.Core.Bool.{Bool, true, false}
-use mathlib.Core.List.{List, [], ◌∷◌, ◌++◌, append-nil}
+use mathlib.Core.List.{List, [], ◌∷◌}
 use native.Mathlib.Omega.{arith}
 use lib.Dec.{eqb, leb, ltb}
-use lib.ListN.{length, take, drop, drop_of_length-le}
-use lib.Seq.{sets, sets-eq, take_at, take_all, length-take-le}
+use lib.ListN.{length, take, drop}
+use lib.Seq.{take_at, take_all, length-take-le}
 use borrow.Author.Tests.{eqb-true, leb-true, ltb-true}
 use Rattle.words.specs.Word.{pick}
 use Rattle.words.proofs.PickLaws.{and_both}
@@ -85,13 +85,6 @@ dropped_shorter g sram s number (suc n) x =
 pub smallest_shorter : (g : Geometry) (sram : List ℕ) (s : State) (number : ℕ) (x : List ℕ) → length (smallest_script_of g sram s number x) ≤ length x
 unfolding smallest_script_of
 smallest_shorter g sram s number x = dropped_shorter g sram s number (records_of x) x
-
--- a script put into a buffer of its length
-pub whole_put : (buffer script : List ℕ) → length buffer ≡ length script → sets buffer 0 script ≡ script
-whole_put buffer script e =
-    sets-eq script buffer 0 (omega (arith, e))
-    ∙ ap (λ (rest : List ℕ). script ++ rest) (drop_of_length-le buffer {i = 0 + length script} (omega (arith, e)))
-    ∙ append-nil script
 
 module _ (g : Geometry) (sram : List ℕ) (s : State) (number : ℕ) (script result : List ℕ) where
   pub not_found : (r : Bool) → r ≡ shows_of g sram s number (take (8 * records_of script) (without_of script (records_of script))) → length script % 8 ≡ 0
