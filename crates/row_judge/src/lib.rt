@@ -137,15 +137,12 @@ pub fn row_decline(
     store: usize,
     image: usize,
     sram: usize,
-) -> Decline
+) -> Result<(), Decline>
     ensures { result ≡ row_decline_of g k row.now.signs row.now.count row.now.queue row.now.last store image sram }
 {
-    let lent = lent_decline(g, Lent::Bank(image), sram);
-    if !lent.is_accepted() {
-        return lent;
-    }
+    lent_decline(g, Lent::Bank(image), sram)?;
     if !row_stands(g, k, row, store) {
-        return Decline::Row;
+        return Err(Decline::Row);
     }
-    Decline::Accepted
+    Ok(())
 }

@@ -1,5 +1,5 @@
 // What a call answers, and the one record that it puts back.
-ghost use Rattle.std.specs.Prelude.{◌≡◌, None};
+ghost use Rattle.std.specs.Prelude.{◌≡◌, None, Err};
 ghost use Rattle.row_schedule.specs.Schedule.{declined, idle};
 
 use row_signs::queue::Queue;
@@ -27,7 +27,7 @@ pub struct Scheduled {
 
 // A declined call, which puts none back.
 pub fn declined(decline: Decline, queue: Queue, last: u32) -> Scheduled
-    ensures { result ≡ record { kept = None; answer = declined decline queue last } }
+    ensures { result ≡ record { kept = None; answer = declined (Err decline) queue last } }
 {
     Scheduled {
         kept: None,

@@ -64,8 +64,7 @@ pub fn schedule_row<'a>(
     ensures { scheduling_from row.now.count result store.new
         ≡ schedule_row_of g k row.now.signs row.now.count row.now.queue row.now.last store.old image.now sram.now }
 {
-    let decline = row_decline(g, k, row, store.len(), image.len(), sram.len());
-    if !decline.is_accepted() {
+    if let Err(decline) = row_decline(g, k, row, store.len(), image.len(), sram.len()) {
         return declined(decline, row.queue, row.last);
     }
     let judged = Judged {

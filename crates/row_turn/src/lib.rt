@@ -4,7 +4,8 @@
 
 ghost use Rattle.std.specs.Prelude.{◌≡◌, ◌⊎◌, ◌+◌, ◌≤◌, length};
 ghost use Rattle.geometry.specs.Banks.{InRange, bank_words_of};
-ghost use Rattle.flash.specs.Write.{Fits};
+ghost use Rattle.flash.specs.Write.{Fits, write_from};
+ghost use Rattle.update.specs.Answers.{turn_effect_from};
 ghost use Rattle.update.specs.Turn.{effected_of};
 ghost use Rattle.row_turn.specs.SignTurn.{part_of, sign_state_of, sign_turn_of, look_of, sign_turning, sign_turning_of, put_write_of, Lies};
 
@@ -12,8 +13,9 @@ use device::registers::Nvmcon;
 use flash::write::Write;
 use geometry::banks::{Geometry, bank_words};
 use row_signs::sign::Sign;
-use update::turn::TurnEffect;
+use update::turn::TurnChange;
 use update_turn::turn_effect;
+use words::decline::Decline;
 use words::quad::put_quad;
 use words::word::has;
 
@@ -42,12 +44,13 @@ pub struct Shared<'a> {
 
 impl Shared<'_> {
     // What a sign's turn does, from its two parts of the store, both only read.
-    fn effect(&self, s: Sign) -> TurnEffect
+    fn effect(&self, s: Sign) -> Result<TurnChange, Decline>
         requires in_range { InRange self.now.g }
         requires lies { Lies self.now.g self.now.store.now s }
-        ensures result_value { effected_of (sign_state_of self.now.g self.now.store.now s) result
+        ensures result_value { effected_of (sign_state_of self.now.g self.now.store.now s) (turn_effect_from s.device s.place result)
             ≡ sign_turn_of self.now.g self.now.store.now self.now.image.now self.now.sram.now s }
-        ensures fits { Fits (part_of self.now.store.now s.one (bank_words_of self.now.g)) (part_of self.now.store.now s.two (bank_words_of self.now.g)) result.write }
+        ensures fits { Fits (part_of self.now.store.now s.one (bank_words_of self.now.g)) (part_of self.now.store.now s.two (bank_words_of self.now.g))
+            (turn_effect_from s.device s.place result).write }
     {
         let words = bank_words(self.g) as usize;
         let one = s.one as usize;
@@ -69,10 +72,18 @@ impl Shared<'_> {
         requires lies { Lies self.now.g self.now.store.now s }
         ensures { result ≡ look_of self.now.g self.now.store.now self.now.image.now self.now.sram.now s }
     {
-        let t = self.effect(s).turned;
-        Look {
-            can: t.decline.is_accepted() && !t.done,
-            sets: !has(s.device.nvmcon.0, Nvmcon::WR) && has(t.device.nvmcon.0, Nvmcon::WR),
+        match self.effect(s) {
+            Ok(change) => {
+                let t = change.outcome;
+                Look {
+                    can: !t.done,
+                    sets: !has(s.device.nvmcon.0, Nvmcon::WR) & has(t.device.nvmcon.0, Nvmcon::WR),
+                }
+            }
+            Err(_) => Look {
+                can: false,
+                sets: false,
+            },
         }
     }
 }
@@ -82,19 +93,18 @@ fn put_write(store: &mut [u32], one: usize, two: usize, words: usize, w: Write)
     requires words_in_bounds { one + words ≤ length store.old }
     requires words_in_bounds_2 { two + words ≤ length store.old }
     requires fact { (one + words ≤ two) ⊎ (two + words ≤ one) }
-    requires fits { Fits (part_of store.old one words) (part_of store.old two words) w }
-    ensures { store.new ≡ put_write_of store.old one two words w }
+    requires fits { Fits (part_of store.old one words) (part_of store.old two words) (write_from w) }
+    ensures { store.new ≡ put_write_of store.old one two words (write_from w) }
 {
-    if !w.writes {
+    let Some(four) = w.words else {
         return;
-    }
+    };
     let quad = w.quad as usize;
-    let four = w.words;
     if w.second {
         put_quad(&mut store[two..two + words], quad, four);
-        return;
+    } else {
+        put_quad(&mut store[one..one + words], quad, four);
     }
-    put_quad(&mut store[one..one + words], quad, four);
 }
 
 // A sign's turn: its record taken, turned by value, and given back.
@@ -109,15 +119,20 @@ pub fn serve(g: Geometry, s: Sign, store: &mut [u32], image: &[u32], sram: &[u32
         image,
         sram,
     };
-    let e = shared.effect(s);
+    let Ok(change) = shared.effect(s) else {
+        return SignTurned {
+            sign: s,
+            event: false,
+        };
+    };
     put_write(
         store,
         s.one as usize,
         s.two as usize,
         bank_words(g) as usize,
-        e.write,
+        change.write,
     );
-    let t = e.turned;
+    let t = change.outcome;
     SignTurned {
         sign: Sign {
             device: t.device,
