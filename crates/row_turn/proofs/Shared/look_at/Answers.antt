@@ -1,28 +1,17 @@
 -- Both tests of the turn's effect.
-use Rattle.std.proofs.Common.{◌≡◌, refl, not, ◌&&◌}
-use Rattle.words.specs.Decline.{accepted_of}
-use Rattle.row_turn.proofs.LookLaws.{looked}
+use Rattle.std.proofs.Common.{refl, Ok}
+use Rattle.update.specs.Answers.{turn_effect_from}
+use Rattle.row_turn.proofs.LookLaws.{looked, declined_look}
 use Rattle.row_turn.proofs.Shared.look_at.Goals as goal
-use Rattle.row_turn.proofs.Shared.look_at.Goals.{then-is_accepted, else-is_accepted}
 
-pub returns-then-not-has : goal.returns-then-not-has
-returns-then-not-has c =
+pub returns-in-Err : goal.returns-in-Err
+returns-in-Err c =
     let a = c.args.self.now in
-    let can : c.if-is_accepted.result ≡ (accepted_of c.effect.result.turned.decline && not c.effect.result.turned.done) =
-    elim c.if-is_accepted.branch [
-      | then-is_accepted w ↦ rw (w.result-is, ← c.is_accepted.ensures, w.if-is_accepted.true) refl
-      | else-is_accepted w ↦ rw (w.result-is, ← c.is_accepted.ensures, w.if-is_accepted.false) refl
-    ] in
-    looked a.g a.store.now a.image.now a.sram.now c.args.s c.effect.result c.effect.ensures.result_value _ can
-    _ (rw (← c.has.ensures, c.if-not-has.true) c.has-then-not-has.ensures)
+    declined_look a.g a.store.now a.image.now a.sram.now c.args.s _ c.in-Err.ensures.result_value
 
-pub returns-else-not-has : goal.returns-else-not-has
-returns-else-not-has c =
+pub returns-in-Ok : goal.returns-in-Ok
+returns-in-Ok c =
     let a = c.args.self.now in
-    let can : c.if-is_accepted.result ≡ (accepted_of c.effect.result.turned.decline && not c.effect.result.turned.done) =
-    elim c.if-is_accepted.branch [
-      | then-is_accepted w ↦ rw (w.result-is, ← c.is_accepted.ensures, w.if-is_accepted.true) refl
-      | else-is_accepted w ↦ rw (w.result-is, ← c.is_accepted.ensures, w.if-is_accepted.false) refl
-    ] in
-    looked a.g a.store.now a.image.now a.sram.now c.args.s c.effect.result c.effect.ensures.result_value _ can
-    _ (rw (← c.has.ensures, c.if-not-has.false) refl)
+    let s = c.args.s in
+    looked a.g a.store.now a.image.now a.sram.now s (turn_effect_from s.device s.place (Ok c.in-Ok.change)) c.in-Ok.ensures.result_value
+    _ refl _ (rw (c.has.ensures, c.has-in-Ok.ensures) refl)
