@@ -3,11 +3,12 @@
 #![tactic(auto)]
 
 ghost use Rattle.std.specs.Prelude.{◌≡◌, ◌≤◌, ◌<◌, eqb, length, get_or};
+ghost use Rattle.std.specs.List.{list_all};
 ghost use Rattle.words.specs.Word.{any_below};
+ghost use Rattle.geometry.specs.Banks.{InRange};
 ghost use Rattle.row_judge.specs.Judge.{in_row_of, entry_stands_of, queue_stands_of, StartsOf, apart_of, bank_stands_of, banks_stand_of, row_stands_of, row_decline_of};
 
-use geometry::banks::Geometry;
-use geometry::layout::Layout;
+use geometry::banks::{Geometry, bank_words};
 use geometry::lent::{Lent, lent_decline};
 use row_signs::queue::Queue;
 use row_signs::row::Row;
@@ -20,74 +21,53 @@ const MOST: usize = 32;
 fn in_row(n: usize) -> bool
     ensures { result ≡ in_row_of n }
 {
-    if n == 0 {
-        return false;
-    }
-    n <= MOST
+    0 < n && n <= MOST
 }
 
 // Whether one of the first p entries of a queue is this record.
-pub fn is_listed(queue: Queue, p: usize, record: u32) -> bool
+pub fn is_listed(queue: &Queue, p: usize, record: u32) -> bool
     requires { p ≤ 32 }
-    ensures { result ≡ any_below (λ e. eqb (get_or queue.numbers e 0) «record») p }
+    ensures { result ≡ any_below (λ e. eqb (get_or queue.now.numbers e 0) «record») p }
 {
-    let numbers = queue.numbers;
-    let mut e = 0;
-    while e < p {
-        if numbers[e] == record {
-            return true;
-        }
-        e += 1;
-    }
-    false
+    queue.numbers[..p].contains(&record)
 }
 
 // Whether an entry of a queue is a record of the list, and stands there once.
 #[tactic(auto, unfolding(crate::specs::Judge::entry_stands_of))]
-fn entry_stands(queue: Queue, n: usize, p: usize) -> bool
+fn entry_stands(queue: &Queue, n: usize, p: usize) -> bool
     requires { p < 32 }
-    ensures { result ≡ entry_stands_of queue n p }
+    ensures { result ≡ entry_stands_of queue.now n p }
 {
-    let numbers = queue.numbers;
-    let number = numbers[p];
-    if n <= number as usize {
-        return false;
-    }
-    !is_listed(queue, p, number)
+    let number = queue.numbers[p];
+    (number as usize) < n && !is_listed(queue, p, number)
 }
 
 // Whether a queue has room for its count, repeats no record and does not overstep the list.
 #[tactic(auto, unfolding(crate::specs::Judge::queue_stands_of))]
-fn queue_stands(queue: Queue, n: usize) -> bool
-    ensures { result ≡ queue_stands_of queue n }
+fn queue_stands(queue: &Queue, n: usize) -> bool
+    ensures { result ≡ queue_stands_of queue.now n }
 {
     let count = queue.count as usize;
     if MOST < count {
         return false;
     }
-    let mut p = 0;
-    while p < count {
+    for p in 0..count {
         if !entry_stands(queue, n, p) {
             return false;
         }
-        p += 1;
     }
     true
 }
 
-// Where the banks of n records start, bank 1 and bank 2 of each record by turns.
-fn starts_of(row: Row, n: usize) -> [u32; 64]
-    requires { n ≤ 32 }
-    ensures { StartsOf row.signs n result }
+// Where the banks of a row's records start, bank 1 and bank 2 of each record by turns.
+fn starts_of(row: &Row) -> [u32; 64]
+    requires { row.now.count ≤ 32 }
+    ensures { StartsOf row.now.signs row.now.count result }
 {
-    let signs = row.signs;
     let mut starts = [0; 64];
-    let mut i = 0;
-    while i < n {
-        let own = signs[i];
+    for (i, own) in row.signs[..row.count].iter().enumerate() {
         starts[2 * i] = own.one;
         starts[2 * i + 1] = own.two;
-        i += 1;
     }
     starts
 }
@@ -98,10 +78,15 @@ fn apart(words: usize, a: usize, b: usize) -> bool
     requires { (words ≤ 4294967296) × ((a ≤ 4294967296) × (b ≤ 4294967296)) }
     ensures { result ≡ apart_of words a b }
 {
-    if a + words <= b {
-        return true;
-    }
-    b + words <= a
+    a + words <= b || b + words <= a
+}
+
+// Whether a bank overlaps none of those that start there.
+fn apart_from_all(starts: &[u32], words: usize, at: usize) -> bool
+    requires { (words ≤ 4294967296) × (at ≤ 4294967296) }
+    ensures { result ≡ list_all (λ start. apart_of words start at) starts.now }
+{
+    starts.iter().all(|start| apart(words, *start as usize, at))
 }
 
 // Whether a bank lies in a store of so many words, apart from the banks before it.
@@ -112,62 +97,35 @@ fn bank_stands(starts: &[u32], words: usize, store: usize, b: usize) -> bool
     ensures { result ≡ bank_stands_of (λ e. get_or starts.now e 0) words store b }
 {
     let at = starts[b] as usize;
-    if store < at + words {
-        return false;
-    }
-    let mut e = 0;
-    while e < b {
-        if !apart(words, starts[e] as usize, at) {
-            return false;
-        }
-        e += 1;
-    }
-    true
+    at + words <= store && apart_from_all(&starts[..b], words, at)
 }
 
-// Whether no bank of n records overlaps another or overhangs the store.
-fn banks_stand(row: Row, n: usize, words: usize, store: usize) -> bool
-    requires n_bound { n ≤ 32 }
+// Whether no bank of a row's records overlaps another or overhangs the store.
+fn banks_stand(row: &Row, words: usize, store: usize) -> bool
+    requires count_bound { row.now.count ≤ 32 }
     requires words_bound { words ≤ 4294967296 }
-    ensures { result ≡ banks_stand_of row.signs n words store }
+    ensures { result ≡ banks_stand_of row.now.signs row.now.count words store }
 {
-    let starts = starts_of(row, n);
-    let mut b = 0;
-    while b < 2 * n {
+    let starts = starts_of(row);
+    for b in 0..2 * row.count {
         if !bank_stands(&starts, words, store, b) {
             return false;
         }
-        b += 1;
     }
     true
 }
 
 // Whether none of the conditions of 19 applies.
 #[tactic(auto, unfolding(crate::specs::Judge::row_stands_of))]
-fn row_stands(
-    layout: Layout,
-    k: u32,
-    row: Row,
-    n: usize,
-    queue: Queue,
-    last: u32,
-    store: usize,
-) -> bool
-    ensures { result ≡ row_stands_of layout.geometry k row.signs n queue last store }
+fn row_stands(g: Geometry, k: u32, row: &Row, store: usize) -> bool
+    requires { InRange g }
+    ensures { result ≡ row_stands_of g k row.now.signs row.now.count row.now.queue row.now.last store }
 {
-    if !in_row(n) {
-        return false;
-    }
-    if !in_row(k as usize) {
-        return false;
-    }
-    if n <= last as usize {
-        return false;
-    }
-    if !queue_stands(queue, n) {
-        return false;
-    }
-    banks_stand(row, n, layout.bank_words() as usize, store)
+    in_row(row.count)
+        && in_row(k as usize)
+        && (row.last as usize) < row.count
+        && queue_stands(&row.queue, row.count)
+        && banks_stand(row, bank_words(g) as usize, store)
 }
 
 // Which of declines 1, 2 and 19 applies.
@@ -175,22 +133,16 @@ fn row_stands(
 pub fn row_decline(
     g: Geometry,
     k: u32,
-    row: Row,
-    n: usize,
-    queue: Queue,
-    last: u32,
+    row: &Row,
     store: usize,
     image: usize,
     sram: usize,
-) -> Decline
-    ensures { result ≡ row_decline_of g k row.signs n queue last store image sram }
+) -> Result<(), Decline>
+    ensures { result ≡ row_decline_of g k row.now.signs row.now.count row.now.queue row.now.last store image sram }
 {
-    let lent = lent_decline(g, Lent::Bank(image), sram);
-    if !lent.is_accepted() {
-        return lent;
+    lent_decline(g, Lent::Bank(image), sram)?;
+    if !row_stands(g, k, row, store) {
+        return Err(Decline::Row);
     }
-    if !row_stands(g, k, row, n, queue, last, store) {
-        return Decline::Row;
-    }
-    Decline::Accepted
+    Ok(())
 }

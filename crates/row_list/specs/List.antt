@@ -2,8 +2,7 @@
 use Rattle.std.specs.Prelude.{ℕ, zero, suc, List, ltb}
 use Rattle.words.specs.Word.{pick}
 use Rattle.row_signs.specs.declared.sign.Sign.{Sign}
-use Rattle.row_signs.specs.declared.row.Row.{Row}
-use Rattle.row_signs.specs.Signs.{sign_at, no_signs, with_sign}
+use Rattle.row_signs.specs.Signs.{Row, sign_at, no_signs, with_sign}
 
 -- how many records of a list of n are gathered
 abbrev pub at_most : ℕ → ℕ

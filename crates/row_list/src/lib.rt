@@ -4,27 +4,22 @@
 ghost use Rattle.std.specs.Prelude.{◌≡◌, ◌≤◌, length, set};
 ghost use Rattle.row_list.specs.List.{at_most, gathered};
 
-use row_signs::row::{Row, no_signs, with_sign};
-use row_signs::sign::Sign;
+use row_signs::sign::{Sign, no_sign};
 
 // How many records are gathered.
 pub fn few(n: usize) -> usize
     ensures { (result ≡ at_most n) × (result ≤ n) × (result ≤ 32) }
 {
-    if 32 < n { 32 } else { n }
+    n.min(32)
 }
 
 // Up to 32 records of a lent list, by value. No call of the row: its caller shows that the list has them.
-pub fn gather(signs: &[Sign], n: usize) -> Row
+pub fn gather(signs: &[Sign], n: usize) -> [Sign; 32]
     requires { (n ≤ length signs.now) × (n ≤ 32) }
-    ensures { result ≡ gathered signs.now n }
+    ensures { result ≡ (gathered signs.now n).signs }
 {
-    let mut row = no_signs();
-    let mut i = 0;
-    while i < n {
-        row = with_sign(row, i, signs[i]);
-        i = i + 1;
-    }
+    let mut row = [no_sign(); 32];
+    row[..n].copy_from_slice(&signs[..n]);
     row
 }
 

@@ -1,57 +1,19 @@
 -- Entries that join a queue, one that leaves it, and what is past them. Assumes nothing.
 use Prim.Native.Nat.{ℕ, zero, suc, ◌+◌, ◌-◌, ◌<◌, ◌≤◌}
 use mathlib.Core.Path.{◌≡◌, refl, sym, ap, ◌∙◌}
-use mathlib.Core.List.{List, [], ◌∷◌, ◌++◌, append_assoc, append-nil}
+use mathlib.Core.List.{List, [], ◌∷◌, ◌++◌, append-nil}
 use native.Mathlib.Omega.{arith}
 use native.Mathlib.Decide.{dec_lt}
 use lib.ListN.{length, get_or, set, take, drop, replicate, length-append, length-take, length-drop, length-replicate, drop_of_length-le}
 use lib.ListN.{get_or-replicate, get_or-eq_default}
-use lib.Seq.{take_all, take_at, take-append-le, drop-append-le, take-nil, drop-nil, set-append_seam, append_snoc, get_or-append-add}
+use lib.Seq.{paste, take_all, length-take-le, set-append_seam, append_snoc, get_or-append-add}
+use borrow.Rule.Slice.PartMut.{put_mid}
+use Rattle.std.proofs.lemmas.List.{take-take, drop-take}
+use Rattle.std.proofs.lemmas.List.Edits.{take-paste}
 use Rattle.row_signs.specs.declared.queue.Queue.{Queue}
 use Rattle.row_signs.specs.Signs.{entries_of, left_of, queue_of}
+use Rattle.row_signs.proofs.ListLaws.{entries_taken}
 use Rattle.row_queue.specs.Waiting.{joined}
-
--- ---- a list without an entry, as it grows
-
-pub left_none : (p : ℕ) → left_of [] p ≡ []
-left_none p = rw (take-nil {A = ℕ} p, drop-nil {A = ℕ} (p + 1)) refl
-
-pub left_length : (l : List ℕ) (p : ℕ) → length (left_of l p) ≤ length l
-left_length l p = omega (arith, length-append (take p l) (drop (p + 1) l), length-take p l, length-drop (p + 1) l)
-
-module _ (l : List ℕ) (x p : ℕ) where
-  -- an entry after it, or before it, stays
-  left_kept : (length l ≡ p → ⊥) → left_of (l ++ (x ∷ [])) p ≡ left_of l p ++ (x ∷ [])
-  left_kept other = go (dec_lt (length l) p)
-    where
-      longer : length (l ++ (x ∷ [])) ≡ length l + 1
-      longer = length-append l (x ∷ [])
-
-      go : Dec (length l < p) → left_of (l ++ (x ∷ [])) p ≡ left_of l p ++ (x ∷ [])
-      go (yes before) =
-          rw (
-            take_all p (l ++ (x ∷ [])) (omega (arith, longer, before)),
-            drop_of_length-le (l ++ (x ∷ [])) {i = p + 1} (omega (arith, longer, before)),
-            take_all p l (omega (arith, before)),
-            drop_of_length-le l {i = p + 1} (omega (arith, before)),
-            append-nil (l ++ (x ∷ [])),
-            append-nil l,
-          ) refl
-      go (no after) =
-          rw (
-            take-append-le p l (x ∷ []) (omega (arith, after)),
-            drop-append-le (p + 1) l (x ∷ []) (omega (arith, after, other)),
-          ) (sym (append_assoc (take p l) (drop (p + 1) l) (x ∷ [])))
-
-  -- it leaves
-  left_out : length l ≡ p → left_of (l ++ (x ∷ [])) p ≡ left_of l p
-  left_out e =
-      rw (
-        take_at l (x ∷ []) p e,
-        drop_of_length-le (l ++ (x ∷ [])) {i = p + 1} (omega (arith, length-append l (x ∷ []), e)),
-        take_all p l (omega (arith, e)),
-        drop_of_length-le l {i = p + 1} (omega (arith, e)),
-      ) refl
 
 -- ---- the queue of a list with an entry more
 
@@ -76,18 +38,6 @@ pub entries_length : (numbers : List ℕ) (n : ℕ) → length (entries_of numbe
 entries_length numbers zero = refl
 entries_length numbers (suc n) = length-append (entries_of numbers n) (get_or numbers n 0 ∷ []) ∙ omega (arith, entries_length numbers n)
 
--- the loop over them: those before e, without p
-module _ (numbers : List ℕ) (p e : ℕ) where
-  pub entry_out : e ≡ p → left_of (entries_of numbers (suc e)) p ≡ left_of (entries_of numbers e) p
-  entry_out same = left_out (entries_of numbers e) (get_or numbers e 0) p (entries_length numbers e ∙ same)
-
-  pub entry_kept : (e ≡ p → ⊥) → (left : Queue) → left ≡ queue_of (left_of (entries_of numbers e) p) → e < 32
-      → joined left (get_or numbers e 0) ≡ queue_of (left_of (entries_of numbers (suc e)) p)
-  entry_kept other left is few =
-      ap (λ (q : Queue). joined q (get_or numbers e 0)) is
-      ∙ joined_is (left_of (entries_of numbers e) p) (get_or numbers e 0) (omega (arith, left_length (entries_of numbers e) p, entries_length numbers e, few))
-      ∙ ap queue_of (sym (left_kept (entries_of numbers e) (get_or numbers e 0) p (λ same. other (sym (entries_length numbers e) ∙ same))))
-
 pub queue_length : (l : List ℕ) (q : Queue) → q ≡ queue_of l → q.count ≡ length l
 queue_length l q e = ap (λ (q : Queue). q.count) e
 
@@ -110,3 +60,47 @@ queue_zeros l p past =
     ap (λ (k : ℕ). get_or (queue_of l).numbers k 0) e
     ∙ get_or-append-add l (replicate (32 - length l) 0) (p - length l) 0
     ∙ zeros_at (32 - length l) (p - length l)
+
+-- ---- an entry leaves
+
+module _ (numbers : List ℕ) (room : length numbers ≡ 32) where
+  -- the numbers up to the count, with zeros after it
+  pub cleared : (count : ℕ) → count ≤ 32 → (l : List ℕ) → take count numbers ≡ l → (zeros : List ℕ)
+      → zeros ≡ replicate (length (take (32 - count) (drop count numbers))) 0
+      → record { count = count; numbers = put_mid count (32 - count) numbers zeros } ≡ queue_of l
+  cleared count few l e zeros z = rw (← e, z, past, none, long, append-nil {A = ℕ} (replicate (32 - count) 0)) refl
+    where
+      long : length (take count numbers) ≡ count
+      long = length-take-le count numbers (omega (arith, room))
+
+      past : length (take (32 - count) (drop count numbers)) ≡ 32 - count
+      past = omega (arith, length-take (32 - count) (drop count numbers), length-drop count numbers, room)
+
+      none : drop (32 - count) (drop count numbers) ≡ []
+      none = drop_of_length-le (drop count numbers) {i = 32 - count} (omega (arith, length-drop count numbers, room))
+
+  -- those after it move up
+  pub moved_up : (count p : ℕ) → count ≤ 32 → p < count
+      → take (count - 1) (paste numbers p (drop (p + 1) numbers) (count - (p + 1))) ≡ left_of (entries_of numbers count) p
+  moved_up count p few inside =
+      ap (λ (k : ℕ). take k (paste numbers p (drop (p + 1) numbers) after)) sum
+      ∙ take-paste numbers p (drop (p + 1) numbers) after (omega (arith, room)) (omega (arith, length-drop (p + 1) numbers, room))
+      ∙ sym (rw (entries_taken numbers count (omega (arith, room)), take-take p count numbers (omega arith), rest) refl)
+    where
+      after : ℕ
+      after = count - (p + 1)
+
+      sum : count - 1 ≡ p + after
+      sum = omega arith
+
+      rest : drop (p + 1) (take count numbers) ≡ take after (drop (p + 1) numbers)
+      rest = let whole : count ≡ (p + 1) + after = omega arith in ap (λ (k : ℕ). drop (p + 1) (take k numbers)) whole ∙ drop-take (p + 1) after numbers
+
+  -- none does where it lies past the last
+  pub none_left : (count p : ℕ) → count ≤ 32 → count ≤ p → take count numbers ≡ left_of (entries_of numbers count) p
+  none_left count p few past =
+      sym (entries_taken numbers count (omega (arith, room)))
+      ∙ sym (rw (take_all p (entries_of numbers count) (omega (arith, entries_length numbers count)), beyond) (append-nil (entries_of numbers count)))
+    where
+      beyond : drop (p + 1) (entries_of numbers count) ≡ []
+      beyond = drop_of_length-le (entries_of numbers count) {i = p + 1} (omega (arith, entries_length numbers count))

@@ -5,21 +5,54 @@ use mathlib.Core.Bool.{Bool, true, false}
 use mathlib.Core.List.{List, [], ◌∷◌}
 use native.Mathlib.Omega.{arith}
 use native.Mathlib.Decide.{dec_lt}
-use lib.Dec.{eqb}
-use lib.ListN.{length, get_or, get_or-append}
+use lib.Dec.{eqb, ltb}
+use borrow.Author.Tests.{ltb-true, lt-ltb}
+use Rattle.std.proofs.Common.{Option, Some, None, count_by, add-one}
+use Rattle.std.proofs.lemmas.List.Sums.{count_by_more_yes, count_by_more_no}
+use lib.ListN.{length, get_or, take, get_or-append}
 use lib.Seq.{get_or-append_seam}
-use Rattle.words.specs.Word.{any_below, first_from}
+use Rattle.words.specs.Word.{pick, any_below, first_from}
 use Rattle.words.proofs.FirstLaws.{first_is}
 use Rattle.row_signs.specs.declared.queue.Queue.{Queue}
-use Rattle.row_signs.specs.Signs.{entries_of, waiting_of, waits_of}
+use Rattle.row_signs.specs.declared.sign.Sign.{Sign}
+use Rattle.row_signs.specs.Signs.{past_end, sign_at, entries_of, waiting_of, waits_of}
 use Rattle.row_queue.proofs.QueueLaws.{entries_length}
 use Rattle.row_choice.specs.Choice.{count_of}
+use Rattle.row_schedule.specs.Calls.{some_below}
 
 pub counted : (p : ℕ → Bool) (i : ℕ) → p i ≡ true → count_of p (suc i) ≡ count_of p i + 1
 counted p i e = rw e
 
 pub not_counted : (p : ℕ → Bool) (i : ℕ) → p i ≡ false → count_of p (suc i) ≡ count_of p i
 not_counted p i e = rw e (omega arith)
+
+-- of the first n elements of a list, in the words of the library
+pub counted_taken : (p : Sign → Bool) (signs : List Sign) (n : ℕ) → n ≤ length signs → count_by p (take n signs) ≡ count_of (λ j. p (sign_at signs j)) n
+counted_taken p signs zero few = refl
+counted_taken p signs (suc n) few = go (p (sign_at signs n)) refl (counted_taken p signs n (omega arith))
+  where
+    go : (t : Bool) → p (sign_at signs n) ≡ t → count_by p (take n signs) ≡ count_of (λ j. p (sign_at signs j)) n
+        → count_by p (take (suc n) signs) ≡ count_of (λ j. p (sign_at signs j)) (suc n)
+    go true e earlier =
+        rw (add-one n) at (count_by_more_yes p signs n past_end (omega arith) e)
+        ∙ ap (λ (m : ℕ). m + 1) earlier ∙ sym (counted (λ j. p (sign_at signs j)) n e)
+    go false e earlier =
+        rw (add-one n) at (count_by_more_no p signs n past_end (omega arith) e) ∙ earlier ∙ sym (not_counted (λ j. p (sign_at signs j)) n e)
+
+-- a number where it is below n, and none where it is not
+pub below_some : (i n p : ℕ) → ◌≡◌ {A = Option ℕ} (Some p) (some_below i n) → (p ≡ i) × (i < n)
+below_some i n p e = go (ltb i n) refl e
+  where
+    go : (t : Bool) → ltb i n ≡ t → ◌≡◌ {A = Option ℕ} (Some p) (pick t (Some i) None) → (p ≡ i) × (i < n)
+    go true l s = (cc, ltb-true _ _ l)
+    go false l s = cc
+
+pub below_none : (i n : ℕ) → ◌≡◌ {A = Option ℕ} None (some_below i n) → n ≤ i
+below_none i n e = go (dec_lt i n) e
+  where
+    go : Dec (i < n) → ◌≡◌ {A = Option ℕ} None (some_below i n) → n ≤ i
+    go (yes l) s = let some : ◌≡◌ {A = Option ℕ} None (Some i) = rw (lt-ltb i n l) at s in cc
+    go (no more) s = omega (arith, more)
 
 -- ---- the entries of a queue
 

@@ -1,13 +1,13 @@
 -- The search round the list, and the choice as a whole. Assumes nothing.
 use Prim.Native.Nat.{ℕ, ◌+◌, ◌≤◌, ◌<◌}
-use mathlib.Core.Path.{◌≡◌, sym, ap, ◌∙◌}
+use mathlib.Core.Path.{◌≡◌, refl, sym, ap, subst, ◌∙◌}
 use mathlib.Core.Bool.{Bool, true, false, not, ◌&&◌, and-false}
 use mathlib.Core.List.{List, ◌++◌}
 use native.Mathlib.Decide.{dec_lt}
 use native.Mathlib.Omega.{arith}
 use lib.Dec.{ltb}
 use lib.ListN.{length, get_or, set, replicate, length-set, length-replicate, get_or-replicate}
-use lib.Seq.{get_or-set_same, get_or-set_other}
+use lib.Seq.{get_or-set_same, get_or-set_other, set-get_or}
 use borrow.Author.Tests.{lt-ltb, le-ltb}
 use Rattle.words.specs.Word.{pick}
 use Rattle.words.proofs.FirstLaws.{first_is}
@@ -20,10 +20,8 @@ use Rattle.row_queue.proofs.QueueLaws.{entries_length}
 use Rattle.row_choice.specs.Choice.{records_of, met_of, before_of, Known, full_of, ready_of, from_queue_of, served_of, waiters_of}
 use Rattle.row_choice.proofs.RecordsLaws.{records_same}
 use Rattle.row_choice.proofs.RoundLaws.{met_below, met_before, before_met}
-use Rattle.row_schedule.specs.declared.round.Stand.{Stand}
-use Rattle.row_schedule.specs.declared.round.Search.{Search}
-use Rattle.row_schedule.specs.declared.choice.Choice.{Choice}
-use Rattle.row_schedule.specs.Round.{stand_of, stands_of, searched_of, joins_of, Searched, round_of}
+use Rattle.row_schedule.specs.declared.round.Stand.TheVariants.{Passed, Waits, Served}
+use Rattle.row_schedule.specs.Round.{Stand, Search, Choice, standing_of, stand_of, stands_of, searched_of, joins_of, Searched, round_of}
 use Rattle.row_schedule.specs.Schedule.{known_of, choice_of}
 use Rattle.row_schedule.proofs.ChoiceLaws.{entry_is, none_more}
 
@@ -36,6 +34,31 @@ passes s = s.free && not s.held
 -- one that would begin to wait there
 abbrev waits : Stand → Bool
 waits s = s.free && s.held
+
+-- how it stands, by both
+pub standing_served : (s : Stand) → standing_of s ≡ Served → passes s ≡ true
+standing_served s e = go s.free s.held e
+  where
+    go : (free held : Bool) → standing_of (record { free = free; held = held }) ≡ Served → (free && not held) ≡ true
+    go true true e = cc
+    go true false e = refl
+    go false held e = cc
+
+pub standing_waits : (s : Stand) → standing_of s ≡ Waits → (passes s ≡ false) × (waits s ≡ true)
+standing_waits s e = go s.free s.held e
+  where
+    go : (free held : Bool) → standing_of (record { free = free; held = held }) ≡ Waits → ((free && not held) ≡ false) × ((free && held) ≡ true)
+    go true true e = (refl, refl)
+    go true false e = cc
+    go false held e = cc
+
+pub standing_passed : (s : Stand) → standing_of s ≡ Passed → (passes s ≡ false) × (waits s ≡ false)
+standing_passed s e = go s.free s.held e
+  where
+    go : (free held : Bool) → standing_of (record { free = free; held = held }) ≡ Passed → ((free && not held) ≡ false) × ((free && held) ≡ false)
+    go true true e = cc
+    go true false e = cc
+    go false held e = (refl, refl)
 
 -- after the first i records that it meets: none of them is served, and those that begin to wait are marked
 pub record Searching (n last : ℕ) (stand : ℕ → Stand) (begins : List Bool) (i : ℕ) : Type 0 where
@@ -86,6 +109,21 @@ module _ (n last : ℕ) (few : n ≤ 32) (inside : last < n) (stand : ℕ → St
             ap (λ (k : ℕ). get_or (set begins (met_of n last i) (waits s)) k false) here
             ∙ get_or-set_same begins (met_of n last i) (waits s) false (omega (arith, met_below n last inside i, so_far.long))
             ∙ rw (same, lt-ltb i (i + 1) (omega arith), here) (ap waits e)
+
+    -- a record that is passed over: nothing is marked
+    pub search_passed : i < n → passes (stand (met_of n last i)) ≡ false → waits (stand (met_of n last i)) ≡ false → Searching n last stand begins (i + 1)
+    search_passed l failed none =
+        subst (λ (b : List Bool). Searching n last stand b (i + 1))
+        (rw none (ap (set begins (met_of n last i)) (sym unmarked) ∙ set-get_or begins (met_of n last i) false))
+        (search_next l (stand (met_of n last i)) refl failed)
+      where
+        unmarked : get_or begins (met_of n last i) false ≡ false
+        unmarked = so_far.marked (met_of n last i) (met_below n last inside i) ∙ rw (before_met n last inside i l, le-ltb i i (omega arith)) refl
+
+    -- one that begins to wait is marked
+    pub search_waits : i < n → passes (stand (met_of n last i)) ≡ false → waits (stand (met_of n last i)) ≡ true
+        → Searching n last stand (set begins (met_of n last i) true) (i + 1)
+    search_waits l failed some = rw some at (search_next l (stand (met_of n last i)) refl failed)
 
     -- it serves the next, or has met all
     pub search_ends : (i < n → passes (stand (met_of n last i)) ≡ true) → (found : ℕ) → found ≡ pick (ltb i n) (met_of n last i) n

@@ -15,8 +15,7 @@ use Rattle.row_judge.specs.Judge.{row_decline_of, Judged}
 use Rattle.row_judge.proofs.JudgeLaws.{stands}
 use Rattle.row_turn.specs.declared.SignTurned.{SignTurned}
 use Rattle.row_turn.specs.SignTurn.{SignTurning, sign_turning, sign_turning_of}
-use Rattle.row_schedule.specs.declared.choice.Choice.{Choice}
-use Rattle.row_schedule.specs.Round.{RowSound, QueueSound}
+use Rattle.row_schedule.specs.Round.{Choice, RowSound, QueueSound}
 use Rattle.row_schedule.specs.Schedule.{known_of, choice_of, Scheduling, scheduling, served, served_sign}
 use Rattle.row_schedule.specs.Schedule.{serving_of, schedule_row_of}
 

@@ -1,5 +1,5 @@
 -- W-206: one call for a row of signs. Assumes nothing.
-use Rattle.std.specs.Prelude.{ℕ, Bool, true, false, List, ltb, length, Ok}
+use Rattle.std.specs.Prelude.{ℕ, Bool, true, false, List, ltb, length, unwrap_or, option_map, Ok}
 use Rattle.words.specs.Word.{pick}
 use Rattle.words.specs.Decline.{Verdict, number_of, accepted_of}
 use Rattle.geometry.specs.declared.banks.Geometry.{Geometry}
@@ -11,7 +11,8 @@ use Rattle.row_judge.specs.Judge.{row_decline_of}
 use Rattle.row_turn.specs.SignTurn.{look_of, SignTurning, sign_turning_of}
 use Rattle.row_choice.specs.Choice.{count_of, Known, served_of, waiters_of}
 use Rattle.row_schedule.specs.declared.answer.ScheduleAnswer.{ScheduleAnswer}
-use Rattle.row_schedule.specs.declared.choice.Choice.{Choice}
+use Rattle.row_schedule.specs.declared.answer.Scheduled.{Scheduled}
+use Rattle.row_schedule.specs.Round.{Choice}
 
 -- what is known of the first n records of a list: WR is counted by the bit, whatever the record
 abbrev pub known_of : Geometry → ℕ → List Sign → ℕ → Queue → ℕ → List ℕ → List ℕ → List ℕ → Known
@@ -39,6 +40,10 @@ pub record Scheduling : Type 0 where
 
 abbrev pub scheduling : ℕ → Sign → List ℕ → ScheduleAnswer → Scheduling
 scheduling number sign store answer = record { number = number; sign = sign; store = store; answer = answer }
+
+-- in contracts: what a call for n records puts back, the store after it and its answer
+abbrev pub scheduling_from : ℕ → Scheduled → List ℕ → Scheduling
+scheduling_from n s store = scheduling (unwrap_or (option_map (λ kept. kept.0) s.kept) n) (unwrap_or (option_map (λ kept. kept.1) s.kept) no_sign) store s.answer
 
 -- beside a decline queue and last served are as handed over; it is not idle, the number served is 0, and there is no event (ours)
 abbrev pub declined : Verdict → Queue → ℕ → ScheduleAnswer

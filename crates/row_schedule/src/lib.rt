@@ -4,89 +4,79 @@
 
 pub mod answer;
 mod choice;
+mod judged;
 mod round;
 
-ghost use Rattle.std.specs.Prelude.{◌≡◌};
-ghost use Rattle.row_schedule.specs.Round.{RowSound};
-ghost use Rattle.row_schedule.specs.Schedule.{serving_of, scheduling, schedule_row_of};
+ghost use Rattle.std.specs.Prelude.{◌≡◌, ◌<◌, IfSome};
+ghost use Rattle.row_schedule.specs.Round.{RowSound, choice_from};
+ghost use Rattle.row_schedule.specs.Schedule.{serving_of, scheduling_from, schedule_row_of};
 
 use crate::answer::{ScheduleAnswer, Scheduled, declined, idle};
-use crate::choice::{Choice, choose};
+use crate::choice::Choice;
+use crate::judged::Judged;
 use geometry::banks::Geometry;
 use row_judge::row_decline;
-use row_signs::queue::Queue;
 use row_signs::row::Row;
-use row_turn::serve;
+use row_turn::{Shared, serve};
 
 // The turn of the record that is served, or nothing where nobody is.
 #[tactic(auto, unfolding(crate::specs::Schedule::serving_of))]
 fn serve_choice(
     g: Geometry,
-    row: Row,
-    n: usize,
+    row: &Row,
     choice: Choice,
-    last: u32,
     store: &mut [u32],
     image: &[u32],
     sram: &[u32],
 ) -> Scheduled
-    requires { RowSound g store.old row.signs n }
-    ensures { scheduling result.number result.sign store.new result.answer
-        ≡ serving_of g row.signs n choice last store.old image.now sram.now }
+    requires row_sound { RowSound g store.old row.now.signs row.now.count }
+    requires listed { IfSome choice.served (λ j. j < row.now.count) }
+    ensures { scheduling_from row.now.count result store.new
+        ≡ serving_of g row.now.signs row.now.count (choice_from row.now.count choice) row.now.last store.old image.now sram.now }
 {
-    let number = choice.served;
-    let queue = choice.queue;
-    if n <= number {
-        return idle(n, queue, last);
-    }
-    let signs = row.signs;
-    let t = serve(g, signs[number], store, image, sram);
-    let sign = t.sign;
-    let answer = ScheduleAnswer {
-        decline: 0,
-        idle: false,
-        served: number as u32,
-        event: t.event,
-        queue,
-        last: number as u32,
+    let Some(number) = choice.served else {
+        return idle(choice.queue, row.last);
     };
+    let t = serve(g, row.signs[number], store, image, sram);
     Scheduled {
-        number,
-        sign,
-        answer,
+        kept: Some((number, t.sign)),
+        answer: ScheduleAnswer {
+            decline: 0,
+            idle: false,
+            served: number as u32,
+            event: t.event,
+            queue: choice.queue,
+            last: number as u32,
+        },
     }
 }
 
-// One call for the first n records of a row.
+// One call for a row.
 #[tactic(auto, unfolding(crate::specs::Schedule::schedule_row_of))]
-pub fn schedule_row(
+pub fn schedule_row<'a>(
     g: Geometry,
     k: u32,
-    row: Row,
-    n: usize,
-    queue: Queue,
-    last: u32,
+    row: &'a Row,
     store: &mut [u32],
-    image: &[u32],
-    sram: &[u32],
+    image: &'a [u32],
+    sram: &'a [u32],
 ) -> Scheduled
-    ensures { scheduling result.number result.sign store.new result.answer
-        ≡ schedule_row_of g k row.signs n queue last store.old image.now sram.now }
+    ensures { scheduling_from row.now.count result store.new
+        ≡ schedule_row_of g k row.now.signs row.now.count row.now.queue row.now.last store.old image.now sram.now }
 {
-    let decline = row_decline(
-        g,
+    if let Err(decline) = row_decline(g, k, row, store.len(), image.len(), sram.len()) {
+        return declined(decline, row.queue, row.last);
+    }
+    let judged = Judged {
         k,
         row,
-        n,
-        queue,
-        last,
-        store.len(),
-        image.len(),
-        sram.len(),
-    );
-    if !decline.is_accepted() {
-        return declined(decline, n, queue, last);
-    }
-    let choice = choose(g, k, row, n, queue, last, store, image, sram);
-    serve_choice(g, row, n, choice, last, store, image, sram)
+        shared: Shared {
+            g,
+            store,
+            image,
+            sram,
+        },
+    };
+    let choice = judged.choose();
+    serve_choice(g, row, choice, store, image, sram)
 }

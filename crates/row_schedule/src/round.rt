@@ -1,88 +1,72 @@
 // The search round the list: how a record stands, which one it serves, and who begins to wait.
-ghost use Rattle.std.specs.Prelude.{◌≡◌, false, ◌++◌, ◌≤◌, ◌<◌, get_or};
+ghost use Rattle.std.specs.Prelude.{◌≡◌, false, ◌++◌, ◌≤◌, ◌<◌, get_or, IfSome};
 ghost use Rattle.row_signs.specs.Signs.{waiting_of, queue_of};
-ghost use Rattle.row_turn.specs.SignTurn.{Lies};
 ghost use Rattle.row_choice.specs.Choice.{records_of};
-ghost use Rattle.row_schedule.specs.Round.{RowSound, QueueSound, MarksNew, stand_of, stands_of, Searched};
+ghost use Rattle.row_schedule.specs.Round.{QueueSound, MarksNew, Searched, standing_of, search_from};
+ghost use Rattle.row_schedule.specs.Calls.{stands_at};
 
-use geometry::banks::Geometry;
-use geometry::layout::Layout;
-use row_judge::is_listed;
+use crate::judged::Judged;
 use row_queue::{join, without};
 use row_signs::queue::Queue;
-use row_signs::row::Row;
-use row_signs::sign::Sign;
-use row_turn::look_at;
 
-// Whether a record is free to be served or to wait, and whether it would have to wait.
+// How a record stands to the search.
 #[derive(Clone, Copy)]
-pub struct Stand {
-    pub free: bool,
-    pub held: bool,
+pub enum Stand {
+    // It waits already, or its turn is declined or done.
+    Passed,
+    // Its turn would set WR while K or more are set, so it begins to wait.
+    Waits,
+    Served,
 }
 
-// The record that the search serves, the number of records where it serves none; and which begin to wait.
+// The record that the search serves, and which begin to wait.
 #[derive(Clone, Copy)]
 pub struct Search {
-    pub found: usize,
+    pub found: Option<usize>,
     pub begins: [bool; 32],
 }
 
-// How a sign stands to be served: record j.
-#[tactic(auto, unfolding(crate::specs::Round::stand_of))]
-fn stand_of(
-    layout: Layout,
-    queue: Queue,
-    full: bool,
-    store: &[u32],
-    image: &[u32],
-    sram: &[u32],
-    s: Sign,
-    j: usize,
-) -> Stand
-    requires count_bound { queue.count ≤ 32 }
-    requires lies { Lies layout.geometry store.now s }
-    requires j_bound { j < 32 }
-    ensures { result ≡ stand_of layout.geometry queue full store.now image.now sram.now s j }
-{
-    let l = look_at(layout, s, store, image, sram);
-    let waits = is_listed(queue, queue.count as usize, j as u32);
-    Stand {
-        free: l.can & !waits,
-        held: l.sets & full,
-    }
-}
-
-// The search: each record that it meets is looked at once.
-pub fn first_found(
-    g: Geometry,
-    row: Row,
-    n: usize,
-    queue: Queue,
-    last: u32,
-    full: bool,
-    store: &[u32],
-    image: &[u32],
-    sram: &[u32],
-) -> Search
-    requires row_sound { RowSound g store.now row.signs n }
-    requires count_bound { queue.count ≤ 32 }
-    requires last_lt_n { last < n }
-    ensures { Searched n last (stands_of g row.signs queue full store.now image.now sram.now) result }
-{
-    let signs = row.signs;
-    let mut begins = [false; 32];
-    let mut i = 0;
-    while i < n {
-        let j = (last as usize + 1 + i) % n;
-        let s = stand_of(g, queue, full, store, image, sram, signs[j], j);
-        if s.free & !s.held {
-            return Search { found: j, begins };
+impl Judged<'_> {
+    // How record j stands, where K or more are set or not.
+    fn stand(&self, full: bool, j: usize) -> Stand
+        requires { j < self.now.row.now.count }
+        ensures { result ≡ standing_of (stands_at self.now full j) }
+    {
+        let look = self.shared.look_at(self.row.signs[j]);
+        let waits = self.row.queue.waiting().contains(&(j as u32));
+        let free = look.can & !waits;
+        let held = look.sets & full;
+        if !free {
+            return Stand::Passed;
         }
-        begins[j] = s.free & s.held;
-        i += 1;
+        if held { Stand::Waits } else { Stand::Served }
     }
-    Search { found: n, begins }
+
+    // The search: each record that it meets is looked at once.
+    pub fn search(&self, full: bool) -> Search
+        ensures told { Searched self.now.row.now.count self.now.row.now.last (stands_at self.now full) (search_from self.now.row.now.count result) }
+        ensures listed { IfSome result.found (λ j. j < self.now.row.now.count) }
+    {
+        let n = self.row.count;
+        let mut begins = [false; 32];
+        for i in 0..n {
+            let j = (self.row.last as usize + 1 + i) % n;
+            match self.stand(full, j) {
+                Stand::Served => {
+                    return Search {
+                        found: Some(j),
+                        begins,
+                    };
+                }
+                Stand::Waits => begins[j] = true,
+                Stand::Passed => {}
+            }
+        }
+        Search {
+            found: None,
+            begins,
+        }
+    }
 }
 
 // The queue with those that begin to wait, in record order.
@@ -93,12 +77,10 @@ pub fn joined_queue(queue: Queue, n: usize, begins: [bool; 32]) -> Queue
     ensures { result ≡ queue_of (waiting_of queue ++ records_of (λ j. get_or begins j false) n) }
 {
     let mut waiting = without(queue, queue.count as usize);
-    let mut j = 0;
-    while j < n {
-        if begins[j] {
+    for (j, begin) in begins[..n].iter().enumerate() {
+        if *begin {
             waiting = join(waiting, j as u32);
         }
-        j += 1;
     }
     waiting
 }

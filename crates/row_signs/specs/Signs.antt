@@ -3,7 +3,6 @@ use Rattle.std.specs.Prelude.{ℕ, zero, suc, ◌+◌, ◌-◌, Bool, List, [], 
 use Rattle.words.specs.Word.{any_below}
 use Rattle.device.specs.Builders.{power_on}
 use Rattle.row_signs.specs.declared.sign.Sign.{Sign}
-use Rattle.row_signs.specs.declared.row.Row.{Row}
 use Rattle.row_signs.specs.declared.queue.Queue.{Queue}
 
 -- the record of a row's free place
@@ -37,6 +36,9 @@ abbrev pub sign_at : List Sign → ℕ → Sign
 sign_at signs i = get_or signs i past_end
 
 -- up to 32 records by value
+pub record Row : Type 0 where
+  pub signs : List Sign
+
 abbrev pub no_signs : Row
 no_signs = record { signs = replicate 32 no_sign }
 

@@ -19,9 +19,8 @@ pub struct Sign {
 pub fn no_sign() -> Sign
     ensures { result ≡ no_sign }
 {
-    let device = power_on();
     Sign {
-        device,
+        device: power_on(),
         place: 0,
         one: 0,
         two: 0,

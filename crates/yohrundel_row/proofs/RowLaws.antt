@@ -31,7 +31,7 @@ use Rattle.row_choice.proofs.RecordsLaws.{records_same}
 use Rattle.row_choice.proofs.RoundLaws.{met_below}
 use Rattle.row_choice.proofs.SoundLaws.{Sound}
 use Rattle.row_turn.specs.SignTurn.{look_of, sign_turning_of}
-use Rattle.row_schedule.specs.declared.choice.Choice.{Choice}
+use Rattle.row_schedule.specs.Round.{Choice}
 use Rattle.row_schedule.specs.Schedule.{known_of, choice_of, scheduling, declined, served_sign, serving_of, schedule_row_of}
 use Rattle.row_schedule.proofs.WaiterLaws.{judged_sound}
 use Rattle.row_list.specs.List.{at_most, gathered}

@@ -9,6 +9,7 @@ use row_list::{few, gather, keep_sign};
 use row_schedule::answer::ScheduleAnswer;
 use row_schedule::schedule_row;
 use row_signs::queue::Queue;
+use row_signs::row::Row;
 use row_signs::sign::Sign;
 
 // The records are gathered, the call is by value, and the one record that it served is kept.
@@ -27,8 +28,15 @@ pub extern "C" fn yohrundel_schedule(
         ≡ schedule_of g k signs.old queue last store.old image.now sram.now }
 {
     let n = signs.len();
-    let row = gather(signs, few(n));
-    let t = schedule_row(g, k, row, n, queue, last, store, image, sram);
-    keep_sign(signs, t.number, t.sign);
+    let row = Row {
+        signs: gather(signs, few(n)),
+        count: n,
+        queue,
+        last,
+    };
+    let t = schedule_row(g, k, &row, store, image, sram);
+    if let Some((number, sign)) = t.kept {
+        keep_sign(signs, number, sign);
+    }
     t.answer
 }

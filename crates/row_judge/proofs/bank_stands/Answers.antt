@@ -1,16 +1,12 @@
--- A bank before it that it overlaps decides.
-use Rattle.std.proofs.Common.{◌≡◌, false, get_or, sym, ◌∙◌, le-leb}
-use Rattle.words.proofs.PickLaws.{not_all_below}
+-- The banks before it, as a list of their starts.
+use Rattle.std.proofs.Common.{◌∙◌, get_or, le-leb, arith}
+use Rattle.row_signs.proofs.ListLaws.{all_taken}
 use Rattle.row_judge.specs.Judge.{apart_of, bank_stands_of}
 use Rattle.row_judge.proofs.bank_stands.Goals as goal
 
-pub returns-then-not-apart : goal.returns-then-not-apart
+pub returns-then-at-words : goal.returns-then-at-words
 unfolding bank_stands_of
-returns-then-not-apart c =
-    let starts = c.args.starts.now in
-    let at = get_or starts c.args.b 0 in
-    let fails : apart_of c.args.words (get_or starts c.loop-e.e 0) at ≡ false = sym c.apart.ensures ∙ c.if-not-apart.true in
-    rw (
-      le-leb _ _ c.if-store-at.false,
-      not_all_below (λ k. apart_of c.args.words (get_or starts k 0) at) _ c.loop-e.e c.loop-e-test.true fails,
-    )
+returns-then-at-words c =
+    let a = c.args in
+    let at = get_or a.starts.now a.b 0 in
+    rw (le-leb _ _ c.if-at-words.true) (c.apart_from_all.ensures ∙ all_taken (λ start. apart_of a.words start at) a.starts.now 0 a.b (omega arith))

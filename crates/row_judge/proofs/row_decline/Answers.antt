@@ -5,5 +5,4 @@ use Rattle.geometry.proofs.LentLaws.{fits}
 use Rattle.row_judge.proofs.row_decline.Goals as goal
 
 pub row_stands-requires : goal.row_stands-requires
-row_stands-requires c =
-    (fits _ _ _ (ap accepted_of (sym c.lent_decline-lent.ensures) ∙ sym c.is_accepted.ensures ∙ c.if-not-is_accepted.false)).range
+row_stands-requires c = (fits _ _ _ (ap accepted_of (sym c.lent_decline.ensures ∙ c.in_ok-lent_decline.was))).range

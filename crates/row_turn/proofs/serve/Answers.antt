@@ -1,9 +1,16 @@
--- The effect, written into the store.
-use Rattle.row_turn.proofs.LookLaws.{served}
+-- The effect, written into the store; nothing where the turn is declined.
+use Rattle.std.proofs.Common.{Ok}
+use Rattle.update.specs.Answers.{turn_effect_from}
+use Rattle.row_turn.proofs.LookLaws.{served, declined_serve}
 use Rattle.row_turn.proofs.serve.Goals as goal
+
+pub returns-in_default : goal.returns-in_default
+returns-in_default c =
+    let a = c.args in
+    declined_serve a.g a.store.now a.image.now a.sram.now a.s _ c.in_default.ensures.result_value c.requires.lies
 
 pub returns : goal.returns
 returns c =
     let a = c.args in
-    served a.g a.store.now a.image.now a.sram.now a.s c.sign_effect-e.result c.sign_effect-e.ensures.result_value _
-    c.bank_words.ensures _ c.put_write.ensures
+    served a.g a.store.now a.image.now a.sram.now a.s (turn_effect_from a.s.device a.s.place (Ok c.in-Ok.change)) c.in-Ok.ensures.result_value
+    _ c.bank_words.ensures _ c.put_write.ensures
