@@ -1,13 +1,15 @@
 -- What holds where none of declines 1, 2 and 3 applies. Assumes nothing.
 use mathlib.Core.Path.{◌≡◌, refl, sym, ap, ◌∙◌}
-use Rattle.std.specs.Prelude.{Ok}
+use Rattle.std.specs.Prelude.{Ok, Result}
 use mathlib.Core.Bool.{Bool, true, false}
 use mathlib.Core.List.{List, [], ◌∷◌}
 use Prim.Native.Nat.{ℕ, ◌≤◌}
 use borrow.Author.Tests.{eq-eqb, le-leb}
 use Rattle.geometry.specs.declared.banks.Geometry.{Geometry}
 use Rattle.geometry.specs.Banks.{in_range_of, bank_words_of}
-use Rattle.words.specs.Decline.{Verdict, accepted_of}
+use Rattle.words.specs.declared.decline.Decline.{Decline}
+use Rattle.geometry.specs.declared.layout.Layout.{Layout}
+use Rattle.words.specs.Decline.{verdict_from, accepted_of}
 use Rattle.geometry.specs.Lent.{bank_lengths, lengths_fit_of, lent_decline_of, lent_decline_up_to}
 use Rattle.words.proofs.BitLaws.{true_not_false}
 use Rattle.geometry.proofs.LentLaws.{EachBank, Fits, fits}
@@ -35,10 +37,10 @@ ready g d lengths sram h =
     go false ea true ec h = true_not_false (sym (simp (ea, ec) at h))
     go false ea false ec h = true_not_false (sym (simp (ea, ec) at h))
 
--- so where a function goes on with what they answer
-pub went_ready : {g : Geometry} {d : Device} {lengths : List ℕ} {sram : ℕ} {r : Verdict} → r ≡ common_decline_of g d lengths sram → r ≡ Ok tt
-    → Ready g d lengths sram
-went_ready e w = ready _ _ _ _ (ap accepted_of (sym e ∙ w))
+-- so where a function goes on with the layout that they answer
+pub went_ready : {g : Geometry} {d : Device} {lengths : List ℕ} {sram : ℕ} {r : Result Layout Decline} {layout : Layout}
+    → verdict_from r ≡ common_decline_of g d lengths sram → r ≡ Ok layout → layout.geometry ≡ g → Ready layout.geometry d lengths sram
+went_ready e w same = rw same (ready _ _ _ _ (ap accepted_of (sym e ∙ ap verdict_from w)))
 
 -- the other way: a call of which each of these holds is not declined by 1 to 3
 each_fits : (g : Geometry) (lengths : List ℕ) → EachBank g lengths → bank_lengths g lengths ≡ true

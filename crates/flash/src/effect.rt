@@ -70,7 +70,7 @@ fn in_region(upper: bool, quad: u32) -> Location
 // Whether that quad is in a protected boot page.
 #[tactic(auto, unfolding(crate::specs::Effect::blocked_of))]
 fn is_blocked(layout: Layout, d: Device, l: Location) -> bool
-    requires offset_bound { l.offset + 16 ≤ window_bytes_of layout.geometry l.program }
+    requires { l.offset + 16 ≤ window_bytes_of layout.geometry l.program }
     ensures { result ≡ blocked_of layout.geometry d (stands_of l) }
 {
     !l.program && is_boot_protected(d, l.upper, l.page(layout))

@@ -34,7 +34,7 @@ pub fn is_boot_protected(d: Device, upper: bool, page: u32) -> bool
 
 // The offset of a program page from 0x1D000000.
 fn page_offset(layout: Layout, upper: bool, page: u32) -> u32
-    requires page_lt_p { page < layout.geometry.p }
+    requires { page < layout.geometry.p }
     ensures { result ≡ page_offset_of layout.geometry upper page }
 {
     let start = if upper { layout.program_bytes() } else { 0 };
@@ -43,7 +43,7 @@ fn page_offset(layout: Layout, upper: bool, page: u32) -> u32
 
 // Whether PWP protects a page of a program region. No call of the device: callers show that there is such a page.
 pub fn is_page_protected(layout: Layout, last: u32, upper: bool, page: u32) -> bool
-    requires page_lt_p { page < layout.geometry.p }
+    requires { page < layout.geometry.p }
     ensures { result ≡ program_protected_of last (page_offset_of layout.geometry upper page) }
 {
     is_program_protected(last, page_offset(layout, upper, page))
@@ -52,7 +52,7 @@ pub fn is_page_protected(layout: Layout, last: u32, upper: bool, page: u32) -> b
 // Whether a page of a window is protected. No call of the device: callers show that there is such a page.
 #[tactic(auto, unfolding(crate::specs::Protection::protected_of))]
 pub fn is_protected(layout: Layout, d: Device, program: bool, upper: bool, page: u32) -> bool
-    requires page_bound { page < pick program layout.geometry.p layout.geometry.b }
+    requires { page < pick program layout.geometry.p layout.geometry.b }
     ensures { result ≡ protected_of layout.geometry d program upper page }
 {
     if program {

@@ -90,7 +90,7 @@ fn compare_images(image: &[u32], other: &[u32]) -> Difference
 // The number of a quad of the bank in the order of the programming.
 #[tactic(auto, unfolding(crate::specs::Reach::programmed_at_of))]
 fn programmed_at(layout: Layout, quad: u32) -> u32
-    requires quad_bound { quad < bank_quads_of layout.geometry }
+    requires { quad < bank_quads_of layout.geometry }
     ensures { result ≡ programmed_at_of layout.geometry quad }
 {
     let boot = layout.boot_quads();
@@ -104,7 +104,7 @@ fn programmed_at(layout: Layout, quad: u32) -> u32
 // The place of the store of a word of the image to its NVMDATA register.
 #[tactic(auto, unfolding(crate::specs::Reach::data_place_of))]
 fn data_place(layout: Layout, i: u32) -> u32
-    requires i_bound { i < bank_words_of layout.geometry }
+    requires { i < bank_words_of layout.geometry }
     ensures { result ≡ data_place_of layout.geometry i }
 {
     let programming = 12 + layout.pages() * (8 + layout.page_quads());
@@ -113,7 +113,7 @@ fn data_place(layout: Layout, i: u32) -> u32
 
 #[tactic(auto, unfolding(crate::specs::Reach::answer_of))]
 fn answer_of(layout: Layout, d: Difference) -> ReachAnswer
-    requires lowest_bound { d.lowest < bank_words_of layout.geometry }
+    requires { d.lowest < bank_words_of layout.geometry }
     ensures { result ≡ answer_of layout.geometry d }
 {
     if d.count != 1 {

@@ -5,10 +5,10 @@
 ghost use Rattle.std.specs.Prelude.{◌≡◌, ◌≤◌, ◌<◌, eqb, length, get_or};
 ghost use Rattle.std.specs.List.{list_all};
 ghost use Rattle.words.specs.Word.{any_below};
-ghost use Rattle.geometry.specs.Banks.{InRange};
 ghost use Rattle.row_judge.specs.Judge.{in_row_of, entry_stands_of, queue_stands_of, StartsOf, apart_of, bank_stands_of, banks_stand_of, row_stands_of, row_decline_of};
 
-use geometry::banks::{Geometry, bank_words};
+use geometry::banks::Geometry;
+use geometry::layout::Layout;
 use geometry::lent::{Lent, lent_decline};
 use row_signs::queue::Queue;
 use row_signs::row::Row;
@@ -117,15 +117,14 @@ fn banks_stand(row: &Row, words: usize, store: usize) -> bool
 
 // Whether none of the conditions of 19 applies.
 #[tactic(auto, unfolding(crate::specs::Judge::row_stands_of))]
-fn row_stands(g: Geometry, k: u32, row: &Row, store: usize) -> bool
-    requires { InRange g }
-    ensures { result ≡ row_stands_of g k row.now.signs row.now.count row.now.queue row.now.last store }
+fn row_stands(layout: Layout, k: u32, row: &Row, store: usize) -> bool
+    ensures { result ≡ row_stands_of layout.geometry k row.now.signs row.now.count row.now.queue row.now.last store }
 {
     in_row(row.count)
         && in_row(k as usize)
         && (row.last as usize) < row.count
         && queue_stands(&row.queue, row.count)
-        && banks_stand(row, bank_words(g) as usize, store)
+        && banks_stand(row, layout.bank_words() as usize, store)
 }
 
 // Which of declines 1, 2 and 19 applies.

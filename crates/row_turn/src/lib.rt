@@ -3,7 +3,7 @@
 #![tactic(auto)]
 
 ghost use Rattle.std.specs.Prelude.{◌≡◌, ◌⊎◌, ◌+◌, ◌≤◌, length};
-ghost use Rattle.geometry.specs.Banks.{InRange, bank_words_of};
+ghost use Rattle.geometry.specs.Banks.{bank_words_of};
 ghost use Rattle.flash.specs.Write.{Fits, write_from};
 ghost use Rattle.update.specs.Answers.{turn_effect_from};
 ghost use Rattle.update.specs.Turn.{effected_of};
@@ -11,7 +11,8 @@ ghost use Rattle.row_turn.specs.SignTurn.{part_of, sign_state_of, sign_turn_of, 
 
 use device::registers::Nvmcon;
 use flash::write::Write;
-use geometry::banks::{Geometry, bank_words};
+use geometry::banks::Geometry;
+use geometry::layout::Layout;
 use row_signs::sign::Sign;
 use update::turn::TurnChange;
 use update_turn::turn_effect;
@@ -108,13 +109,12 @@ fn put_write(store: &mut [u32], one: usize, two: usize, words: usize, w: Write)
 }
 
 // A sign's turn: its record taken, turned by value, and given back.
-pub fn serve(g: Geometry, s: Sign, store: &mut [u32], image: &[u32], sram: &[u32]) -> SignTurned
-    requires in_range { InRange g }
-    requires lies { Lies g store.old s }
-    ensures { sign_turning result store.new ≡ sign_turning_of g store.old image.now sram.now s }
+pub fn serve(layout: Layout, s: Sign, store: &mut [u32], image: &[u32], sram: &[u32]) -> SignTurned
+    requires { Lies layout.geometry store.old s }
+    ensures { sign_turning result store.new ≡ sign_turning_of layout.geometry store.old image.now sram.now s }
 {
     let shared = Shared {
-        g,
+        layout,
         store,
         image,
         sram,
@@ -129,7 +129,7 @@ pub fn serve(g: Geometry, s: Sign, store: &mut [u32], image: &[u32], sram: &[u32
         store,
         s.one as usize,
         s.two as usize,
-        bank_words(g) as usize,
+        layout.bank_words() as usize,
         change.write,
     );
     let t = change.outcome;

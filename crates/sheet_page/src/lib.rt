@@ -64,7 +64,7 @@ pub fn kind_pages(g: Geometry, program: bool) -> u32
 
 // The number of a page in its bank: the boot pages come first.
 fn page_index(layout: Layout, program: bool, page: u32) -> u32
-    requires page_bound { page < kind_pages_of layout.geometry program }
+    requires { page < kind_pages_of layout.geometry program }
     ensures { result ≡ page_index_of layout.geometry program page }
 {
     if program { layout.geometry.b + page } else { page }

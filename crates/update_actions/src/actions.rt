@@ -72,11 +72,15 @@ fn erased_page(layout: Layout, i: u32) -> u32
 // Action k of a page of the bank: its stores, its steps, its end.
 #[tactic(auto, unfolding(update::specs::Actions::page_action_of))]
 fn page_action(layout: Layout, page: u32, k: u32) -> Action
-    requires page_bound { page < pages_of layout.geometry }
+    requires { page < pages_of layout.geometry }
     ensures { result ≡ page_action_of layout.geometry page k }
 {
     if k == 0 {
-        return Action::Store(NVMADDR, PLAIN, upper_address(layout, page * layout.page_quads()));
+        return Action::Store(
+            NVMADDR,
+            PLAIN,
+            upper_address(layout, page * layout.page_quads()),
+        );
     }
     if k < 7 {
         return launch_action(PAGE_ERASE, k - 1);

@@ -12,7 +12,7 @@ use words::word::has;
 
 // The sequence word of the bank on the lower alias. No call of the updater: its callers judge the lengths first.
 pub fn lower_word(layout: Layout, d: Device, one: &[u32], two: &[u32]) -> u32
-    requires one_len { (length one.now ≡ bank_words_of layout.geometry) × (length two.now ≡ bank_words_of layout.geometry) }
+    requires { (length one.now ≡ bank_words_of layout.geometry) × (length two.now ≡ bank_words_of layout.geometry) }
     ensures { result ≡ lower_word_of layout.geometry (lent d one.entry two.entry) }
 {
     let i = sequence_index(layout) as usize;

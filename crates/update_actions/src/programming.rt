@@ -16,7 +16,7 @@ use words::quad::quad_at;
 // Where a quad of a bank stands on the upper side.
 #[tactic(auto, unfolding(update::specs::Actions::upper_address_of))]
 pub fn upper_address(layout: Layout, quad: u32) -> u32
-    requires quad_bound { quad < bank_quads_of layout.geometry }
+    requires { quad < bank_quads_of layout.geometry }
     ensures { result ≡ upper_address_of layout.geometry quad }
 {
     if quad < layout.boot_quads() {
@@ -28,7 +28,7 @@ pub fn upper_address(layout: Layout, quad: u32) -> u32
 // Quad i of the programming, by its number in the bank.
 #[tactic(auto, unfolding(update::specs::Actions::programmed_quad_of))]
 fn programmed_quad(layout: Layout, i: u32) -> u32
-    requires i_bound { i < bank_quads_of layout.geometry }
+    requires { i < bank_quads_of layout.geometry }
     ensures { result ≡ programmed_quad_of layout.geometry i }
 {
     let program = layout.geometry.p * layout.page_quads();

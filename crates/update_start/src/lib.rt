@@ -1,7 +1,8 @@
 // The update start.
 #![tactic(auto)]
 
-ghost use Rattle.std.specs.Prelude.{◌≡◌, length};
+ghost use Rattle.std.specs.Prelude.{◌≡◌, IfOk, length};
+ghost use Rattle.words.specs.Decline.{verdict_from};
 ghost use Rattle.geometry.specs.Banks.{bank_words_of};
 ghost use Rattle.device.specs.State.{lent};
 ghost use Rattle.update.specs.Answers.{started_from};
@@ -33,7 +34,7 @@ fn clashes(w: u32) -> bool
 // Whether decline 10 does not apply.
 #[tactic(auto, unfolding(update::specs::Start::sequence_allows_of))]
 fn sequence_allows(layout: Layout, d: Device, one: &[u32], two: &[u32]) -> bool
-    requires one_len { (length one.now ≡ bank_words_of layout.geometry) × (length two.now ≡ bank_words_of layout.geometry) }
+    requires { (length one.now ≡ bank_words_of layout.geometry) × (length two.now ≡ bank_words_of layout.geometry) }
     ensures { result ≡ sequence_allows_of layout.geometry (lent d one.entry two.entry) }
 {
     let bfswap = has(d.nvmcon.0, Nvmcon::BFSWAP);
@@ -53,30 +54,31 @@ fn is_upper_free(layout: Layout, d: Device) -> bool
     has(d.nvmbwp.0, Nvmbwp::UBWPULOCK) && pwp(d) < layout.program_bytes()
 }
 
-#[tactic(auto, unfolding(update::specs::Start::start_decline_of), using(common_declines::proofs::CommonDeclineLaws::went_ready))]
+#[tactic(auto, unfolding(update::specs::Start::start_decline_of))]
 fn start_decline(
     g: Geometry,
     d: Device,
     one: &[u32],
     two: &[u32],
     image: usize,
-) -> Result<(), Decline>
-    ensures { result ≡ start_decline_of g (lent d one.entry two.entry) image }
+) -> Result<Layout, Decline>
+    ensures verdict { verdict_from result ≡ start_decline_of g (lent d one.entry two.entry) image }
+    ensures layout { IfOk result (λ layout. layout.geometry ≡ g) }
 {
-    common_decline(g, d, Lent::BanksAndImage(one.len(), two.len(), image), 0)?;
+    let layout = common_decline(g, d, Lent::BanksAndImage(one.len(), two.len(), image), 0)?;
     if has(d.nvmcon.0, Nvmcon::WR) {
         return Err(Decline::Running);
     }
-    if !sequence_allows(g, d, one, two) {
+    if !sequence_allows(layout, d, one, two) {
         return Err(Decline::Sequence);
     }
-    if tseq(lower_word(g, d, one, two)) == 65535 {
+    if tseq(lower_word(layout, d, one, two)) == 65535 {
         return Err(Decline::LastSequence);
     }
-    if !is_upper_free(g, d) {
+    if !is_upper_free(layout, d) {
         return Err(Decline::Protection);
     }
-    Ok(())
+    Ok(layout)
 }
 
 // Starts an update: it changes nothing.
@@ -90,9 +92,9 @@ pub fn start(
 ) -> Result<UpdateStart, Decline>
     ensures { started_from result ≡ start_of g (lent d one.entry two.entry) image.now }
 {
-    start_decline(g, d, one, two, image.len())?;
+    let layout = start_decline(g, d, one, two, image.len())?;
     Ok(UpdateStart {
         place: 0,
-        total: total(g),
+        total: total(layout),
     })
 }

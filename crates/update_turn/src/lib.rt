@@ -17,6 +17,7 @@ use device::registers::Nvmcon;
 use flash::step::step_effect;
 use flash::write::{Write, apply, no_write};
 use geometry::banks::Geometry;
+use geometry::layout::Layout;
 use geometry::lent::Lent;
 use register_access::{may_store, store_accepted};
 use update::actions::Action;
@@ -45,7 +46,7 @@ fn going(outcome: Outcome, write: Write, place: u32) -> TurnChange
 // The effect of the action of a place, or its decline. No call of the updater: turn_effect judges the other declines first.
 #[tactic(auto, unfolding(update::specs::Turn::act_of))]
 fn act(
-    g: Geometry,
+    layout: Layout,
     d: Device,
     one: &[u32],
     two: &[u32],
@@ -53,14 +54,14 @@ fn act(
     place: u32,
     action: Action,
 ) -> Result<TurnChange, Decline>
-    requires g_value { in_range_of g ≡ true }
-    requires d_value { possible_of g d ≡ true }
-    requires one_len { (length one.now ≡ bank_words_of g) × (length two.now ≡ bank_words_of g) }
+    requires g_value { in_range_of layout.geometry ≡ true }
+    requires d_value { possible_of layout.geometry d ≡ true }
+    requires one_len { (length one.now ≡ bank_words_of layout.geometry) × (length two.now ≡ bank_words_of layout.geometry) }
     requires sram_len_bound { length sram.now ≤ most_sram }
     requires formed { Formed action }
     requires place_bound { place < 2000000 }
     ensures result_value { effected_of (lent d one.entry two.entry) (turn_effect_from d place result)
-        ≡ act_of g (lent d one.entry two.entry) sram.now place action }
+        ≡ act_of layout.geometry (lent d one.entry two.entry) sram.now place action }
     ensures fits { Fits one.now two.now (turn_effect_from d place result).write }
 {
     match action {
@@ -68,20 +69,24 @@ fn act(
             if !may_store(d, number) {
                 return Err(Decline::Running);
             }
-            Ok(going(store_accepted(g, d, number, form, value), no_write(), place))
+            Ok(going(
+                store_accepted(layout, d, number, form, value),
+                no_write(),
+                place,
+            ))
         }
         Action::Step => {
             if !has(d.nvmcon.0, Nvmcon::WR) {
                 return Err(Decline::Idle);
             }
-            let e = step_effect(g, d, one, two, sram);
+            let e = step_effect(layout, d, one, two, sram);
             Ok(going(e.outcome, e.write, place))
         }
     }
 }
 
 // The effect of a turn: the action of its place and no other; done at the total and only there.
-#[tactic(auto, unfolding(update::specs::Turn::turn_of, update::specs::Turn::turn_decline_of, update::specs::Turn::act_of), using(common_declines::proofs::CommonDeclineLaws::went_ready))]
+#[tactic(auto, unfolding(update::specs::Turn::turn_of, update::specs::Turn::turn_decline_of, update::specs::Turn::act_of))]
 pub fn turn_effect(
     g: Geometry,
     d: Device,
@@ -96,8 +101,8 @@ pub fn turn_effect(
     ensures fits { Fits one.now two.now (turn_effect_from d place result).write }
 {
     let lent = Lent::BanksAndImage(one.len(), two.len(), image.len());
-    common_decline(g, d, lent, sram.len())?;
-    let total = total(g);
+    let layout = common_decline(g, d, lent, sram.len())?;
+    let total = total(layout);
     if total < place {
         return Err(Decline::Place);
     }
@@ -112,8 +117,8 @@ pub fn turn_effect(
             write: no_write(),
         });
     }
-    let action = action_at(g, image, lower_word(g, d, one, two), place);
-    act(g, d, one, two, sram, place, action)
+    let action = action_at(layout, image, lower_word(layout, d, one, two), place);
+    act(layout, d, one, two, sram, place, action)
 }
 
 // One turn.

@@ -7,7 +7,7 @@ use Rattle.row_turn.proofs.serve.Goals as goal
 pub returns-in_default : goal.returns-in_default
 returns-in_default c =
     let a = c.args in
-    declined_serve a.g a.store.now a.image.now a.sram.now a.s _ c.in_default.ensures.result_value c.requires.lies
+    declined_serve a.g a.store.now a.image.now a.sram.now a.s _ c.in_default.ensures.result_value c.requires
 
 pub returns : goal.returns
 returns c =

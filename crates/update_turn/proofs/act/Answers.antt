@@ -14,9 +14,6 @@ use Rattle.update.specs.Turn.{act_of, performed}
 use Rattle.update.proofs.FormLaws.{step_carried}
 use Rattle.update_turn.proofs.act.Goals as goal
 
-pub store_accepted-requires : goal.store_accepted-requires
-store_accepted-requires c = in-range c.args.g c.requires.g_value
-
 pub returns-else-not-may_store-clause-result_value : goal.returns-else-not-may_store-clause-result_value
 unfolding act_of
 returns-else-not-may_store-clause-result_value c =
@@ -28,7 +25,7 @@ returns-else-not-may_store-clause-result_value c =
       c.no_write.ensures,
       c.in-Store.is,
       may,
-      store_carried a.g a.d _ _ _ c.requires.g_value c.requires.d_value formed may,
+      store_carried a.layout.geometry a.d _ _ _ c.requires.g_value c.requires.d_value formed may,
       ← c.store_accepted.ensures,
     )
 
@@ -36,7 +33,7 @@ returns-else-not-may_store-clause-result_value c =
 pub step_effect-e-requires-clause-runs : goal.step_effect-e-requires-clause-runs
 step_effect-e-requires-clause-runs c =
     let a = c.args in
-    runs a.g a.d (in-range a.g c.requires.g_value) c.requires.d_value (sym c.has.ensures ∙ c.if-not-has.false)
+    runs a.layout.geometry a.d a.layout.in_range c.requires.d_value (sym c.has.ensures ∙ c.if-not-has.false)
 
 pub returns-else-not-has-clause-result_value : goal.returns-else-not-has-clause-result_value
 unfolding act_of
@@ -44,12 +41,12 @@ returns-else-not-has-clause-result_value c =
     let a = c.args in
     let on : running a.d ≡ true = sym c.has.ensures ∙ c.if-not-has.false in
     let s = state a.d a.one.now a.two.now in
-    let sound : Sound a.g s = record { possible = c.requires.d_value; first = c.requires.one_len.0; other = c.requires.one_len.1 } in
+    let sound : Sound a.layout.geometry s = record { possible = c.requires.d_value; first = c.requires.one_len.0; other = c.requires.one_len.1 } in
     rw (
       c.going-in-Step.ensures,
       c.in-Step.is,
       on,
-      step_carried a.g s a.sram.now c.requires.g_value sound c.requires.sram_len_bound on,
+      step_carried a.layout.geometry s a.sram.now c.requires.g_value sound c.requires.sram_len_bound on,
     ) (ap (λ (e : StepEffect). performed a.place (stepped_of s e)) c.step_effect-e.ensures)
 
 pub returns-else-not-has-clause-fits : goal.returns-else-not-has-clause-fits
@@ -57,4 +54,4 @@ returns-else-not-has-clause-fits c =
     let a = c.args in
     let on : running a.d ≡ true = sym c.has.ensures ∙ c.if-not-has.false in
     rw (ap (λ (e : TurnChange). e.write) c.going-in-Step.ensures, ap (λ (e : StepEffect). e.write) c.step_effect-e.ensures)
-    (effect_fits a.g (state a.d a.one.now a.two.now) a.sram.now (runs a.g a.d (in-range a.g c.requires.g_value) c.requires.d_value on) c.requires.one_len)
+    (effect_fits a.layout.geometry (state a.d a.one.now a.two.now) a.sram.now (runs a.layout.geometry a.d a.layout.in_range c.requires.d_value on) c.requires.one_len)

@@ -9,5 +9,34 @@ act-requires-clause-formed c = rw c.action_at-action.ensures (actions_formed _ _
 
 pub act-requires-clause-place_bound : goal.act-requires-clause-place_bound
 act-requires-clause-place_bound c =
-    let r = went_ready c.common_decline.ensures c.in_ok-common_decline.was in
-    omega (arith, total_high c.args.g r.lent.range, c.total-total.ensures, c.if-total-place.false)
+    omega (arith, total_high c.in_ok-layout.layout.geometry c.in_ok-layout.layout.in_range, c.total-total.ensures, c.if-total-place.false)
+
+pub lower_word-requires : goal.lower_word-requires
+lower_word-requires c =
+    let r = went_ready c.common_decline.ensures.verdict c.in_ok-layout.was c.in_ok-layout.ensures.layout in
+    (r.lent.banks.0, r.lent.banks.1.0)
+
+pub action_at-action-requires-clause-image_len : goal.action_at-action-requires-clause-image_len
+action_at-action-requires-clause-image_len c =
+    let r = went_ready c.common_decline.ensures.verdict c.in_ok-layout.was c.in_ok-layout.ensures.layout in
+    r.lent.banks.1.1.0
+
+pub act-requires-clause-g_value : goal.act-requires-clause-g_value
+act-requires-clause-g_value c =
+    let r = went_ready c.common_decline.ensures.verdict c.in_ok-layout.was c.in_ok-layout.ensures.layout in
+    r.lent.listed
+
+pub act-requires-clause-d_value : goal.act-requires-clause-d_value
+act-requires-clause-d_value c =
+    let r = went_ready c.common_decline.ensures.verdict c.in_ok-layout.was c.in_ok-layout.ensures.layout in
+    r.possible
+
+pub act-requires-clause-one_len : goal.act-requires-clause-one_len
+act-requires-clause-one_len c =
+    let r = went_ready c.common_decline.ensures.verdict c.in_ok-layout.was c.in_ok-layout.ensures.layout in
+    (r.lent.banks.0, r.lent.banks.1.0)
+
+pub act-requires-clause-sram_len_bound : goal.act-requires-clause-sram_len_bound
+act-requires-clause-sram_len_bound c =
+    let r = went_ready c.common_decline.ensures.verdict c.in_ok-layout.was c.in_ok-layout.ensures.layout in
+    r.lent.room
