@@ -22,7 +22,7 @@ use Rattle.geometry.proofs.SizeLaws.{Unit, quad_unit, row_unit, page_unit, round
 use Rattle.map.proofs.WindowLaws.{unit_kept, page_below}
 use Rattle.device.specs.declared.record.Device.{Device}
 use Rattle.device.specs.State.{State, bank_of}
-use Rattle.flash.specs.declared.effect.Effect.{Effect}
+use Rattle.flash.specs.Effect.{Effect}
 use Rattle.device.specs.Record.{op_of, bfswap, pfswap}
 use Rattle.protection.specs.Protection.{pwp_of, program_protected_of, page_offset_of, boot_protected_of, protected_of, any_protected_of}
 use Rattle.nvmop.specs.Operation.{unit_of, target_of, target_begins_of, region_begins_of, begins_at_of, length_of}

@@ -18,7 +18,7 @@ use Rattle.map.specs.Windows.{page_of}
 use Rattle.device.specs.Record.{running, op_of}
 use Rattle.protection.specs.Protection.{protected_of}
 use Rattle.flash.specs.Effect.{Runs, step_location_of, effect_of}
-use Rattle.flash.specs.declared.write.Write.{Write}
+use Rattle.flash.specs.Write.{Write}
 use Rattle.flash.specs.Write.{one_after, two_after}
 use Rattle.nvmop.specs.Operation.{length_of}
 use Rattle.device.specs.declared.record.Device.{Device}

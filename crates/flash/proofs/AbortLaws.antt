@@ -24,7 +24,7 @@ use Rattle.device.specs.declared.record.Device.{Device}
 use Rattle.device.specs.Record.{bfswap, pfswap, op_of}
 use Rattle.device.specs.State.{State, bank_of}
 use Rattle.protection.specs.Protection.{pwp_of}
-use Rattle.flash.specs.declared.effect.Effect.{Effect}
+use Rattle.flash.specs.Effect.{Effect}
 use Rattle.flash.specs.Effect.{Runs, step_location_of, blocked_of, source_word_of, source_fits_of, effect, effect_at_of, effect_of}
 use Rattle.flash.specs.StepSentences.{nvmop, step_address, Blocked, SourceFits, Blank, Aborts}
 use Rattle.flash.specs.StepSentences.Blocked.{lower, upper}

@@ -22,7 +22,7 @@ use Rattle.device.specs.declared.record.Device.{Device}
 use Rattle.device.specs.Record.{op_of, bfswap, pfswap}
 use Rattle.protection.specs.Protection.{pwp_of}
 use Rattle.nvmop.specs.Operation.{unit_of, target_of, page_protected_of, target_begins_of, begins_at_of, length_of}
-use Rattle.flash.specs.declared.effect.Effect.{Effect}
+use Rattle.flash.specs.Effect.{Effect}
 use Rattle.device.specs.State.{State, bank_of}
 use Rattle.flash.specs.Write.{Fits}
 use Rattle.flash.specs.Effect.{Runs, region_steps, step_at_of, step_location_of, blocked_of, source_word_of, source_fits_of, effect_at_of, effect_of}

@@ -12,8 +12,18 @@ use Rattle.device.specs.State.{State, bank_of}
 use Rattle.device.specs.Record.{op_of, bfswap, pfswap}
 use Rattle.protection.specs.Protection.{boot_protected_of}
 use Rattle.nvmop.specs.Operation.{target_of, launched_begins_of, length_of}
-use Rattle.flash.specs.declared.effect.Effect.{Effect}
+use Rattle.flash.specs.declared.effect.Effect as code
+use Rattle.flash.specs.Write.{Write, write_from}
 use Rattle.device.specs.Numbers.{quad_program, row_program, lower_erase, upper_erase}
+
+-- whether a step aborts, and what it writes
+pub record Effect : Type 0 where
+  pub aborts : Bool
+  pub write : Write
+
+-- in contracts: of the code
+abbrev pub effect_from : code.Effect → Effect
+effect_from e = record { aborts = e.aborts; write = write_from e.write }
 
 -- an operation that runs on a possible device: what the functions below ask for
 pub record Runs (g : Geometry) (d : Device) : Type 0 where

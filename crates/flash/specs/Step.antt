@@ -12,9 +12,8 @@ use Rattle.device.specs.Builders.{with_con, with_launched}
 use Rattle.device.specs.Record.{running, op_of, no_operands}
 use Rattle.nvmop.specs.Operation.{length_of}
 use Rattle.common_declines.specs.CommonDecline.{common_decline_of}
-use Rattle.flash.specs.declared.write.Write.{Write}
 use Rattle.flash.specs.declared.step.StepEffect as code
-use Rattle.flash.specs.Write.{written_of}
+use Rattle.flash.specs.Write.{Write, write_from, written_of}
 use Rattle.flash.specs.Effect.{effect_of}
 
 -- declines 1, 2, 3 and 6
@@ -42,7 +41,7 @@ pub record StepEffect : Type 0 where
 
 -- in contracts: of a step that is not declined
 abbrev pub step_effect_from : code.StepEffect → StepEffect
-step_effect_from e = record { answer = advanced e.outcome.device e.outcome.event; write = e.write }
+step_effect_from e = record { answer = advanced e.outcome.device e.outcome.event; write = write_from e.write }
 
 -- what a step that is not declined answers, and what it writes
 abbrev pub step_effect_of : Geometry → State → List ℕ → StepEffect

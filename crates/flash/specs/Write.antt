@@ -1,10 +1,22 @@
 -- At most one quad of two banks is written. Assumes nothing.
-use Rattle.std.specs.Prelude.{ℕ, ◌+◌, ◌*◌, ◌≤◌, ◌≡◌, true, false, List, length}
+use Rattle.std.specs.Prelude.{ℕ, ◌+◌, ◌*◌, ◌≤◌, ◌≡◌, Bool, true, false, List, length}
+use Rattle.std.specs.Option.{is_some, unwrap_or}
 use Rattle.words.specs.Word.{pick}
 use Rattle.words.specs.Quad.{put_quad, blank_quad}
 use Rattle.device.specs.declared.record.Device.{Device}
 use Rattle.device.specs.State.{State, state}
-use Rattle.flash.specs.declared.write.Write.{Write}
+use Rattle.flash.specs.declared.write.Write as code
+
+-- whether a quad is written, of which bank, where, and its words
+pub record Write : Type 0 where
+  pub writes : Bool
+  pub second : Bool
+  pub quad : ℕ
+  pub words : List ℕ
+
+-- in contracts: of the code; where nothing is written, the words are all ones (ours; nothing reads them)
+abbrev pub write_from : code.Write → Write
+write_from w = record { writes = is_some w.words; second = w.second; quad = w.quad; words = unwrap_or w.words blank_quad }
 
 -- nothing is written
 abbrev pub no_write : Write

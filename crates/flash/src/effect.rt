@@ -1,13 +1,15 @@
 // What the next step of a running operation does: a step carries it out, and a reset tears it.
 // What asks for Runs, or for room in the banks, is no call of the device: its callers decide their decline first.
-ghost use Rattle.std.specs.Prelude.{◌≡◌, ◌+◌, ◌*◌, ◌^◌, ◌<◌, ◌≤◌, true, length};
+ghost use Rattle.std.specs.Prelude.{◌≡◌, ℕ, Bool, ◌+◌, ◌*◌, ◌^◌, ◌<◌, ◌≤◌, true, length};
+ghost use Rattle.std.specs.Option.{is_none, is_some, unwrap_or};
 ghost use Rattle.words.specs.Word.{pick};
-ghost use Rattle.words.specs.Quad.{quad_at};
+ghost use Rattle.words.specs.Quad.{quad_at, blank_quad};
 ghost use Rattle.geometry.specs.Banks.{InRange, bank_words_of};
+ghost use Rattle.device.specs.Record.{bfswap, pfswap};
 ghost use Rattle.device.specs.State.{lent};
-ghost use Rattle.map.specs.Windows.{window_bytes_of, located};
+ghost use Rattle.map.specs.Windows.{window_bytes_of, located, in_second_of};
 ghost use Rattle.map.specs.Location.{stands_of};
-ghost use Rattle.flash.specs.Effect.{Runs, step_location_of, blocked_of, source_fits_of, source_word_of, effect, effect_at_of, effect_of};
+ghost use Rattle.flash.specs.Effect.{Runs, step_location_of, blocked_of, source_fits_of, source_word_of, effect, effect_from, effect_at_of, effect_of};
 
 use crate::write::Write;
 use device::numbers::{
@@ -23,14 +25,14 @@ use words::quad::{is_blank, quad_at, quad_from};
 use words::word::has;
 
 // Whether the step aborts, and what it writes; the bank and the quad are those that it works on, also where it writes nothing.
-#[derive(Clone, Copy)]
+#[derive(Clone, Copy, PartialEq, Eq, Debug)]
 pub struct Effect {
     pub aborts: bool,
     pub write: Write,
 }
 
 // Where the quad of the next step stands.
-#[tactic(auto, unfolding(crate::specs::Effect::step_at_of))]
+#[tactic(auto, using(crate::proofs::EffectLaws::steps_high), unfolding(crate::specs::Effect::step_at_of))]
 pub fn step_location(g: Geometry, d: Device) -> Location
     requires { Runs g d }
     ensures { stands_of result ≡ step_location_of g d }
@@ -90,6 +92,16 @@ fn source_fits(d: Device, sram: usize) -> bool
     d.launched.nvmsrcaddr % 4 == 0 && source_word(d) + 4 <= sram
 }
 
+// Whether bank 2 stands at a place.
+pub fn second_at(d: Device, l: Location) -> bool
+    ensures { result ≡ in_second_of (stands_of l) (bfswap d) (pfswap d) }
+{
+    l.is_second(
+        has(d.nvmcon.0, Nvmcon::BFSWAP),
+        has(d.nvmcon.0, Nvmcon::PFSWAP),
+    )
+}
+
 // A quad as it is before the step.
 pub fn old_quad(one: &[u32], two: &[u32], second: bool, quad: u32) -> [u32; 4]
     requires { (4 * quad + 4 ≤ length one.now) × (4 * quad + 4 ≤ length two.now) }
@@ -99,40 +111,26 @@ pub fn old_quad(one: &[u32], two: &[u32], second: bool, quad: u32) -> [u32; 4]
     quad_at(bank, quad as usize)
 }
 
-// What the next step does to a quad that is not in a protected boot page.
+// The words that the next step writes over a quad that is not in a protected boot page. Where there are none it aborts.
 #[tactic(auto, unfolding(crate::specs::Effect::effect_at_of))]
-fn effect_at(d: Device, sram: &[u32], second: bool, quad: u32, old: [u32; 4]) -> Effect
-    ensures { result ≡ effect_at_of d sram.now second quad old }
+fn intended(d: Device, sram: &[u32], old: [u32; 4]) -> Option<[u32; 4]>
+    ensures { (second : Bool) (quad : ℕ) → effect (is_none result) (is_some result) second quad (unwrap_or result blank_quad)
+        ≡ effect_at_of d sram.now second quad old }
 {
-    let blank = [0xFFFF_FFFF; 4];
     let op = op(d);
     if ROW_PROGRAM < op {
-        return doing(false, true, second, quad, blank);
+        return Some([0xFFFF_FFFF; 4]);
     }
     if !is_blank(old) {
-        return doing(true, false, second, quad, blank);
+        return None;
     }
     if op == QUAD_PROGRAM {
-        let data = d.launched.nvmdata;
-        return doing(false, true, second, quad, data);
+        return Some(d.launched.nvmdata);
     }
     if !source_fits(d, sram.len()) {
-        return doing(true, false, second, quad, blank);
+        return None;
     }
-    let row = quad_from(sram, source_word(d));
-    doing(false, true, second, quad, row)
-}
-
-fn doing(aborts: bool, writes: bool, second: bool, quad: u32, intended: [u32; 4]) -> Effect
-    ensures { result ≡ effect aborts writes second quad intended }
-{
-    let write = Write {
-        writes,
-        second,
-        quad,
-        words: intended,
-    };
-    Effect { aborts, write }
+    Some(quad_from(sram, source_word(d)))
 }
 
 // What the next step of the running operation does.
@@ -140,15 +138,28 @@ fn doing(aborts: bool, writes: bool, second: bool, quad: u32, intended: [u32; 4]
 pub fn next_effect(g: Geometry, d: Device, one: &[u32], two: &[u32], sram: &[u32]) -> Effect
     requires runs { Runs g d }
     requires one_len { (length one.now ≡ bank_words_of g) × (length two.now ≡ bank_words_of g) }
-    ensures { result ≡ effect_of g (lent d one.entry two.entry) sram.now }
+    ensures { effect_from result ≡ effect_of g (lent d one.entry two.entry) sram.now }
 {
     let l = step_location(g, d);
-    let bfswap = has(d.nvmcon.0, Nvmcon::BFSWAP);
-    let pfswap = has(d.nvmcon.0, Nvmcon::PFSWAP);
-    let second = l.is_second(bfswap, pfswap);
+    let second = second_at(d, l);
     let quad = l.quad_index(g);
     if is_blocked(g, d, l) {
-        return doing(false, false, second, quad, [0xFFFF_FFFF; 4]);
+        return Effect {
+            aborts: false,
+            write: Write {
+                second,
+                quad,
+                words: None,
+            },
+        };
     }
-    effect_at(d, sram, second, quad, old_quad(one, two, second, quad))
+    let words = intended(d, sram, old_quad(one, two, second, quad));
+    Effect {
+        aborts: words.is_none(),
+        write: Write {
+            second,
+            quad,
+            words,
+        },
+    }
 }

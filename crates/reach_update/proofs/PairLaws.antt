@@ -18,7 +18,7 @@ use Rattle.device.specs.declared.record.Device.{Device}
 use Rattle.device.specs.Numbers.{quad_program}
 use Rattle.device.specs.Record.{running, op_of}
 use Rattle.device.specs.State.{State, After}
-use Rattle.flash.specs.declared.effect.Effect.{Effect}
+use Rattle.flash.specs.Effect.{Effect}
 use Rattle.flash.specs.Write.{written_of}
 use Rattle.flash.specs.Effect.{effect, effect_of, step_location_of}
 use Rattle.flash.specs.Step.{advance_of, step_of}

@@ -17,7 +17,7 @@ use device::numbers::BOTH_ERASE;
 use device::outcome::Outcome;
 use device::record::Device;
 use device::registers::Nvmcon;
-use flash::effect::step_location;
+use flash::effect::{second_at, step_location};
 use flash::step::step_accepted;
 use geometry::banks::Geometry;
 use geometry::lent::Lent;
@@ -32,15 +32,6 @@ pub struct FlashWord {
     pub word: u32,
     pub event: bool,
     pub device: Device,
-}
-
-// Whether bank 2 stands at a place.
-fn second_at(d: Device, l: Location) -> bool
-    ensures { result ≡ second_at_of d (stands_of l) }
-{
-    let bfswap = has(d.nvmcon.0, Nvmcon::BFSWAP);
-    let pfswap = has(d.nvmcon.0, Nvmcon::PFSWAP);
-    l.is_second(bfswap, pfswap)
 }
 
 // Whether no running operation targets the bank.

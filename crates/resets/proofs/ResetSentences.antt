@@ -31,7 +31,7 @@ use Rattle.device.specs.State.{State, state, bank_of, after}
 use Rattle.common_declines.specs.CommonDecline.{common_decline_of, Usable, CommonDeclines}
 use Rattle.common_declines.proofs.CommonDeclineLaws.{Ready, opens}
 use Rattle.common_declines.proofs.DeclineLaws.{usable, used, common_first, common_fixes}
-use Rattle.flash.specs.declared.write.Write.{Write}
+use Rattle.flash.specs.Write.{Write}
 use Rattle.flash.specs.Write.{written_of}
 use Rattle.flash.specs.Effect.{effect_of}
 use Rattle.flash.specs.Step.{step_decline_of, step_of}

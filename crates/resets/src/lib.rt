@@ -5,10 +5,9 @@ ghost use Rattle.std.specs.Prelude.{◌≡◌, true, length, Ok, Err, MatchResul
 ghost use Rattle.sequence.specs.Comparison.{comparison_from};
 ghost use Rattle.geometry.specs.Banks.{InRange, bank_words_of};
 ghost use Rattle.common_declines.specs.Possible.{possible_of};
-ghost use Rattle.flash.specs.Effect.{Runs, effect_of};
-ghost use Rattle.device.specs.State.{state, lent};
+ghost use Rattle.device.specs.State.{state};
 ghost use Rattle.resets.specs.Kind.{kind_number_of};
-ghost use Rattle.resets.specs.Reset.{reset_decline_of, torn_of, tear_of, comparison_of, reset_con_of, reset_device_of, explained_from, explained_of};
+ghost use Rattle.resets.specs.Reset.{reset_decline_of, tear_of, comparison_of, reset_con_of, reset_device_of, explained_from, explained_of};
 
 pub mod kind;
 
@@ -51,28 +50,6 @@ fn reset_kind(
     Kind::try_from(kind)
 }
 
-// The write of the next step as a cut tears it.
-fn torn_write(
-    g: Geometry,
-    d: Device,
-    one: &[u32],
-    two: &[u32],
-    sram: &[u32],
-    mask: [u32; 4],
-) -> Write
-    requires runs { Runs g d }
-    requires one_len { (length one.now ≡ bank_words_of g) × (length two.now ≡ bank_words_of g) }
-    ensures { result ≡ (let s = lent d one.entry two.entry in torn_of s mask (effect_of g s sram.now).write) }
-{
-    let e = next_effect(g, d, one, two, sram);
-    let mut w = e.write;
-    let words = w.words;
-    let old = old_quad(one, two, w.second, w.quad);
-    let torn = merge_quad(mask, words, old);
-    w.words = torn;
-    w
-}
-
 // Tears the quad of the next step where an operation runs.
 fn tear(g: Geometry, d: Device, one: &mut [u32], two: &mut [u32], sram: &[u32], mask: [u32; 4])
     requires in_range { InRange g }
@@ -83,8 +60,15 @@ fn tear(g: Geometry, d: Device, one: &mut [u32], two: &mut [u32], sram: &[u32], 
     if !has(d.nvmcon.0, Nvmcon::WR) {
         return;
     }
-    let w = torn_write(g, d, one, two, sram, mask);
-    apply(one, two, w);
+    let write = next_effect(g, d, one, two, sram).write;
+    if let Some(words) = write.words {
+        let old = old_quad(one, two, write.second, write.quad);
+        let torn = Write {
+            words: Some(merge_quad(mask, words, old)),
+            ..write
+        };
+        apply(one, two, torn);
+    }
 }
 
 // The comparison of the two banks. No call of the device: its callers judge the lengths first.

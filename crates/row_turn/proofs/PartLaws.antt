@@ -13,7 +13,7 @@ use Rattle.words.proofs.QuadLaws.{put_length}
 use Rattle.geometry.specs.declared.banks.Geometry.{Geometry}
 use Rattle.geometry.specs.Banks.{bank_words_of}
 use Rattle.device.specs.State.{state}
-use Rattle.flash.specs.declared.write.Write.{Write}
+use Rattle.flash.specs.Write.{Write}
 use Rattle.flash.specs.Write.{Fits}
 use Rattle.update.specs.Answers.{TurnEffect}
 use Rattle.update.specs.Turn.{effected_of, turn_of}

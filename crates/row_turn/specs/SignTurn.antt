@@ -6,7 +6,7 @@ use Rattle.geometry.specs.declared.banks.Geometry.{Geometry}
 use Rattle.geometry.specs.Banks.{bank_words_of}
 use Rattle.device.specs.Record.{running}
 use Rattle.device.specs.State.{State, state}
-use Rattle.flash.specs.declared.write.Write.{Write}
+use Rattle.flash.specs.Write.{Write}
 use Rattle.flash.specs.Write.{one_after, two_after}
 use Rattle.update.specs.Turn.{Turning, turn_of}
 use Rattle.row_signs.specs.declared.sign.Sign.{Sign}

@@ -21,7 +21,7 @@ use Rattle.geometry.proofs.SizeLaws.{in-range}
 use Rattle.sequence.specs.Sequence.{sequence_quad_of, sequence_index_of, next_sequence_of}
 use Rattle.device.specs.declared.record.Device.{Device}
 use Rattle.device.specs.Record.{running}
-use Rattle.flash.specs.declared.effect.Effect.{Effect}
+use Rattle.flash.specs.Effect.{Effect}
 use Rattle.flash.specs.Write.{written_of}
 use Rattle.flash.specs.Effect.{effect, effect_of}
 use Rattle.resets.specs.Reset.{torn_of, while_running, reset_device_of, tear_of, restart_of}

@@ -29,7 +29,7 @@ use Rattle.device.specs.Numbers.{both_erase}
 use Rattle.protection.specs.Protection.{pwp_of}
 use Rattle.device.specs.State.{State, bank_of}
 use Rattle.flash.specs.Effect.{step_location_of, effect_of}
-use Rattle.flash.specs.declared.effect.Effect.{Effect}
+use Rattle.flash.specs.Effect.{Effect}
 use Rattle.flash.proofs.EffectLaws.{effect_second}
 use Rattle.flash.specs.Step.{step_effect_of, stepped_of, step_answer_of, step_of}
 use Rattle.flash.proofs.AcceptedLaws.{step_ready}

@@ -12,7 +12,7 @@ use lib.Seq.{take-suc}
 use Rattle.geometry.specs.declared.banks.Geometry.{Geometry}
 use Rattle.device.specs.declared.record.Device.{Device}
 use Rattle.start_up.specs.StartUp.{Access, access}
-use Rattle.flash.specs.declared.effect.Effect.{Effect}
+use Rattle.flash.specs.Effect.{Effect}
 use Rattle.flash.specs.Write.{written_of}
 use Rattle.flash.specs.Effect.{effect, effect_of}
 use Rattle.flash.specs.Step.{advance_of, step_effect_of, stepped_of, step_of}

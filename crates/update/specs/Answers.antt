@@ -3,8 +3,7 @@ use Rattle.std.specs.Prelude.{ℕ, Bool, false, Ok, Err, Result}
 use Rattle.words.specs.declared.decline.Decline.{Decline}
 use Rattle.words.specs.Decline.{Verdict}
 use Rattle.device.specs.declared.record.Device.{Device}
-use Rattle.flash.specs.declared.write.Write.{Write}
-use Rattle.flash.specs.Write.{no_write}
+use Rattle.flash.specs.Write.{Write, no_write, write_from}
 use Rattle.update.specs.declared.start.UpdateStart.{UpdateStart}
 use Rattle.update.specs.declared.turn.TurnOutcome.{TurnOutcome}
 use Rattle.update.specs.declared.turn.TurnChange.{TurnChange}
@@ -40,5 +39,5 @@ pub record TurnEffect : Type 0 where
 
 -- in contracts: the same with what it writes, nothing where it is declined
 abbrev pub turn_effect_from : Device → ℕ → Result TurnChange Decline → TurnEffect
-turn_effect_from d place (Ok c) = record { turned = turned_from d place (Ok c.outcome); write = c.write }
+turn_effect_from d place (Ok c) = record { turned = turned_from d place (Ok c.outcome); write = write_from c.write }
 turn_effect_from d place (Err e) = record { turned = turned_from d place (Err e); write = no_write }
