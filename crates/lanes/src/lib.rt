@@ -9,25 +9,22 @@ use words::decline::Decline;
 
 // Why a way out or back is declined, by the lengths of its source and target.
 #[tactic(auto, unfolding(crate::specs::Lanes::lanes_decline_of))]
-fn lanes_decline(source: usize, target: usize) -> Decline
+fn lanes_decline(source: usize, target: usize) -> Result<(), Decline>
     ensures { result ≡ lanes_decline_of source target }
 {
     if source != target || source % 4 != 0 {
-        return Decline::Lanes;
+        return Err(Decline::Lanes);
     }
-    Decline::Accepted
+    Ok(())
 }
 
 // Writes the lanes of an image's bytes to the target: all first bytes, then all second, third and fourth.
 // Where it is declined the target is as before.
-pub fn lanes_out(source: &[u8], target: &mut [u8]) -> Decline
+pub fn lanes_out(source: &[u8], target: &mut [u8]) -> Result<(), Decline>
     ensures { (result ≡ lanes_decline_of (length source.now) (length target.old))
         × (target.new ≡ target_of lanes_out_of source.now target.old) }
 {
-    let decline = lanes_decline(source.len(), target.len());
-    if !decline.is_accepted() {
-        return decline;
-    }
+    lanes_decline(source.len(), target.len())?;
     let n = source.len() / 4;
     for i in 0..n {
         target[i] = source[4 * i];
@@ -35,22 +32,19 @@ pub fn lanes_out(source: &[u8], target: &mut [u8]) -> Decline
         target[2 * n + i] = source[4 * i + 2];
         target[3 * n + i] = source[4 * i + 3];
     }
-    decline
+    Ok(())
 }
 
 // Writes the bytes of an image to the target, given its lanes. Where it is declined the target is as before.
-pub fn lanes_back(source: &[u8], target: &mut [u8]) -> Decline
+pub fn lanes_back(source: &[u8], target: &mut [u8]) -> Result<(), Decline>
     ensures { (result ≡ lanes_decline_of (length source.now) (length target.old))
         × (target.new ≡ target_of lanes_back_of source.now target.old) }
 {
-    let decline = lanes_decline(source.len(), target.len());
-    if !decline.is_accepted() {
-        return decline;
-    }
+    lanes_decline(source.len(), target.len())?;
     let n = source.len() / 4;
     for block in 0..n.div_ceil(BLOCK_WORDS) {
         let from = BLOCK_WORDS * block;
         words_back(source, target, n, from, block_end(n, from));
     }
-    decline
+    Ok(())
 }
