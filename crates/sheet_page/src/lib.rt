@@ -25,6 +25,17 @@ pub struct PageState {
     pub quads: usize,
 }
 
+// A bank of a sign: bank 1 or, with second, bank 2, and the device whose swap bits and protection its pages are under.
+#[derive(Clone, Copy)]
+pub struct SheetBank<'a> {
+    pub g: Geometry,
+    pub d: Device,
+    pub words: &'a [u32],
+    pub second: bool,
+    ghost in_range: { InRange g },
+    ghost words_len: { length words.now ≡ bank_words_of g },
+}
+
 // How many of so many quads of a bank are not all ones. Not a call of the device: its callers show that they lie in the
 // bank.
 fn used_quads(bank: &[u32], first: usize, count: usize) -> usize
@@ -70,29 +81,22 @@ fn page_index(g: Geometry, program: bool, page: u32) -> u32
     if program { g.b + page } else { page }
 }
 
-// What the sheet says of a page of a bank.
-pub fn page_state(
-    g: Geometry,
-    d: Device,
-    bank: &[u32],
-    second: bool,
-    program: bool,
-    page: u32,
-) -> PageState
-    requires in_range { InRange g }
-    requires bank_len { length bank.now ≡ bank_words_of g }
-    requires page_bound { page < kind_pages_of g program }
-    ensures { result ≡ page_state_of g d bank.now second program page }
-{
-    let upper = is_upper(d, second, program);
-    let count = page_quads(g) as usize;
-    let first = page_index(g, program, page) as usize * count;
-    PageState {
-        second,
-        program,
-        page: page as usize,
-        upper,
-        protected: is_protected(g, d, program, upper, page),
-        quads: used_quads(bank, first, count),
+impl<'a> SheetBank<'a> {
+    // What the sheet says of a page of the bank.
+    pub fn page_state(self, program: bool, page: u32) -> PageState
+        requires { page < kind_pages_of self.g program }
+        ensures { result ≡ page_state_of self.entry.g self.entry.d self.entry.words.now self.entry.second program page }
+    {
+        let upper = is_upper(self.d, self.second, program);
+        let count = page_quads(self.g) as usize;
+        let first = page_index(self.g, program, page) as usize * count;
+        PageState {
+            second: self.second,
+            program,
+            page: page as usize,
+            upper,
+            protected: is_protected(self.g, self.d, program, upper, page),
+            quads: used_quads(self.words, first, count),
+        }
     }
 }
