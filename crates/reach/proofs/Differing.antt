@@ -23,9 +23,7 @@ use Rattle.sequence.specs.Sequence.{sequence_quad_of}
 use Rattle.update.specs.declared.actions.Action.{Action}
 use Rattle.update.specs.declared.actions.Action.TheVariants.{Step}
 use Rattle.reach.specs.declared.Difference.{Difference}
-use Rattle.reach.specs.declared.ReachAnswer.{ReachAnswer}
-use Rattle.reach.specs.declared.Reached.{Reached}
-use Rattle.reach.specs.Reach.{reach_number_of, difference_of, data_place_of, answer_of, reach_decline_of, reach_of}
+use Rattle.reach.specs.Reach.{ReachAnswer, Reached, reach_number_of, difference_of, data_place_of, answer_of, reach_decline_of, reach_of}
 use Rattle.reach.specs.Differing.{OneWord, Differs, WordsGiven, DifferAt, Reaches, Found, NotFound, OneAction, Differing}
 use Rattle.reach.proofs.DifferenceLaws.{differing_of, meaning}
 use Rattle.reach.proofs.OneWordLaws.{within, found_one, only_one}

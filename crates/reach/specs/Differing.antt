@@ -12,9 +12,7 @@ use Rattle.device.specs.Numbers.{NVMDATA0, plain}
 use Rattle.update.specs.declared.actions.Action.TheVariants.{Store, Step}
 use Rattle.update.specs.Actions.{actions_of, total_of}
 use Rattle.reach.specs.declared.Difference.{Difference}
-use Rattle.reach.specs.declared.ReachAnswer.{ReachAnswer}
-use Rattle.reach.specs.declared.Reached.{Reached}
-use Rattle.reach.specs.Reach.{reach_number_of, data_place_of, reach_of}
+use Rattle.reach.specs.Reach.{ReachAnswer, Reached, reach_number_of, data_place_of, reach_of}
 
 -- word i differs, and no other does
 pub record OneWord (image other : List ℕ) (i : ℕ) : Type 0 where

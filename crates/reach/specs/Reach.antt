@@ -1,7 +1,8 @@
 -- W-214: what two images differ in, and the place of the one action that differs. Assumes nothing.
-use Rattle.std.specs.Prelude.{ℕ, zero, suc, ◌+◌, ◌-◌, ◌*◌, ◌/◌, ◌%◌, Bool, not, List, [], ◌∷◌, eqb, ltb, length}
+use Rattle.std.specs.Prelude.{ℕ, zero, suc, ◌+◌, ◌-◌, ◌*◌, ◌/◌, ◌%◌, Bool, not, List, [], ◌∷◌, eqb, ltb, length, Result, Ok, Err}
 use Rattle.words.specs.Word.{pick}
 use Rattle.words.specs.Quad.{word_at}
+use Rattle.words.specs.declared.decline.Decline.{Decline}
 use Rattle.words.specs.Decline.{Verdict, accepted_of}
 use Rattle.geometry.specs.declared.banks.Geometry.{Geometry}
 use Rattle.geometry.specs.Banks.{boot_quads_of, bank_words_of}
@@ -9,9 +10,30 @@ use Rattle.geometry.specs.Lent.{lent_decline_of}
 use Rattle.sequence.specs.Sequence.{sequence_quad_of}
 use Rattle.update.specs.Actions.{program_quads_of, programming_from, quad_actions}
 use Rattle.reach.specs.declared.Difference.{Difference}
-use Rattle.reach.specs.declared.ReachAnswer.{ReachAnswer}
-use Rattle.reach.specs.declared.ReachAnswer.TheVariants.{Action, NoAction, Words, Declined}
-use Rattle.reach.specs.declared.Reached.{Reached}
+use Rattle.reach.specs.declared.ReachAnswer as code
+use Rattle.reach.specs.declared.ReachAnswer.TheVariants as code_variants
+
+-- what a difference of two images reaches: the action at a place, no action, or the words that differ; or the call is declined
+pub data ReachAnswer : Type 0 where
+  Action : ℕ → ReachAnswer
+  NoAction : ReachAnswer
+  Words : Difference → ReachAnswer
+  Declined : ReachAnswer
+
+-- the verdict, and what is reached
+pub record Reached : Type 0 where
+  pub decline : Verdict
+  pub answer : ReachAnswer
+
+-- in contracts: an answer of the code, as one of these
+abbrev pub answer_from : code.ReachAnswer → ReachAnswer
+answer_from (code_variants.Action place) = Action place
+answer_from code_variants.NoAction = NoAction
+answer_from (code_variants.Words d) = Words d
+
+abbrev pub reached_from : Result code.ReachAnswer Decline → Reached
+reached_from (Ok a) = record { decline = Ok tt; answer = answer_from a }
+reached_from (Err e) = record { decline = Err e; answer = Declined }
 
 -- the answers by number, in the request's order (ours); 3 where the call is declined (ours)
 abbrev pub reach_number_of : ReachAnswer → ℕ

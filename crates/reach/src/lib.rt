@@ -5,7 +5,7 @@
 ghost use Rattle.std.specs.Prelude.{◌≡◌, ◌≤◌, ◌<◌, length};
 ghost use Rattle.geometry.specs.Banks.{bank_words_of};
 ghost use Rattle.update.specs.Actions.{bank_quads_of};
-ghost use Rattle.reach.specs.Reach.{reach_number_of, with_word_of, difference_of, programmed_at_of, data_place_of, answer_of, reach_of};
+ghost use Rattle.reach.specs.Reach.{answer_from, reached_from, reach_number_of, with_word_of, difference_of, programmed_at_of, data_place_of, answer_of, reach_of};
 
 use geometry::banks::Geometry;
 use geometry::layout::Layout;
@@ -30,26 +30,17 @@ pub enum ReachAnswer {
     NoAction,
     // No word differs, or several do.
     Words(Difference),
-    // The call is declined.
-    Declined,
-}
-
-#[derive(Clone, Copy)]
-pub struct Reached {
-    pub decline: Decline,
-    pub answer: ReachAnswer,
 }
 
 impl ReachAnswer {
-    // Its number: 0 an action, 1 no action, 2 words, 3 declined.
+    // Its number: 0 an action, 1 no action, 2 words. 3 is that of a call that is declined.
     pub fn number(self) -> u32
-        ensures { result ≡ reach_number_of self }
+        ensures { result ≡ reach_number_of (answer_from self) }
     {
         match self {
             ReachAnswer::Action(_) => 0,
             ReachAnswer::NoAction => 1,
             ReachAnswer::Words(_) => 2,
-            ReachAnswer::Declined => 3,
         }
     }
 }
@@ -114,7 +105,7 @@ fn data_place(layout: Layout, i: u32) -> u32
 #[tactic(auto, unfolding(crate::specs::Reach::answer_of))]
 fn answer_of(layout: Layout, d: Difference) -> ReachAnswer
     requires { d.lowest < bank_words_of layout.geometry }
-    ensures { result ≡ answer_of layout.geometry d }
+    ensures { answer_from result ≡ answer_of layout.geometry d }
 {
     if d.count != 1 {
         ReachAnswer::Words(d)
@@ -127,17 +118,9 @@ fn answer_of(layout: Layout, d: Difference) -> ReachAnswer
 
 // What two images differ in, and where they differ in one word the place of the action that differs. It changes nothing.
 #[tactic(auto, unfolding(crate::specs::Reach::reach_of))]
-pub fn reach(g: Geometry, image: &[u32], other: &[u32]) -> Reached
-    ensures { result ≡ reach_of g image.now other.now }
+pub fn reach(g: Geometry, image: &[u32], other: &[u32]) -> Result<ReachAnswer, Decline>
+    ensures { reached_from result ≡ reach_of g image.now other.now }
 {
-    let decline = lent_decline(g, Lent::Banks(image.len(), other.len()), 0);
-    if !decline.is_accepted() {
-        return Reached {
-            decline,
-            answer: ReachAnswer::Declined,
-        };
-    }
-    let d = compare_images(image, other);
-    let answer = answer_of(g, d);
-    Reached { decline, answer }
+    let layout = lent_decline(g, Lent::Banks(image.len(), other.len()), 0)?;
+    Ok(answer_of(layout, compare_images(image, other)))
 }

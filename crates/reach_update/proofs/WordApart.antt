@@ -21,8 +21,7 @@ use Rattle.update.specs.Moves.Move.{read}
 use Rattle.update.proofs.Example.{example_update, words_set, total_is, empty_short}
 use Rattle.update.proofs.Moves.{moves_fail}
 use Rattle.update.proofs.RunLaws.{turns_place}
-use Rattle.reach.specs.declared.ReachAnswer.{ReachAnswer}
-use Rattle.reach.specs.Reach.{programmed_at_of, data_place_of, answer_of, reach_of}
+use Rattle.reach.specs.Reach.{ReachAnswer, programmed_at_of, data_place_of, answer_of, reach_of}
 use Rattle.reach.specs.Differing.{OneWord}
 use Rattle.reach_update.specs.WordApart.{other_image, WordApart}
 use Rattle.reach_update.proofs.SameRuns.{one_word_reaches}

@@ -7,8 +7,7 @@ use Rattle.update.specs.Bench.{smallest}
 use Rattle.update.specs.Example.{example_state, example_image, empty_srams}
 use Rattle.update.specs.Moves.{moves_of, turn_moves}
 use Rattle.update.specs.Moves.Move.{read}
-use Rattle.reach.specs.declared.ReachAnswer.{ReachAnswer}
-use Rattle.reach.specs.Reach.{reach_of}
+use Rattle.reach.specs.Reach.{ReachAnswer, reach_of}
 use Rattle.reach.specs.Differing.{OneWord}
 use Rattle.reach_update.specs.SameRuns.{AtOnePlace}
 

@@ -1,5 +1,5 @@
 -- The page sheet: its lines in order, and the call that writes it into a lent buffer. Assumes nothing.
-use Rattle.std.specs.Prelude.{ℕ, zero, suc, ◌*◌, Bool, true, false, List, [], ◌∷◌, ◌++◌, leb, length, drop, Ok, Err}
+use Rattle.std.specs.Prelude.{ℕ, zero, suc, ◌*◌, Bool, true, false, List, [], ◌∷◌, ◌++◌, leb, length, drop, Result, Ok, Err}
 use Rattle.words.specs.Word.{pick}
 use Rattle.words.specs.declared.decline.Decline.{Decline}
 use Rattle.words.specs.Decline.{Verdict, accepted_of, first_of}
@@ -57,3 +57,8 @@ page_sheet_of g d one two buffer =
     pick (accepted_of decline)
     (given (Ok tt) (sheet_bytes_of g) (with_sheet (sheet_of g d one two) buffer))
     (given decline 0 buffer)
+
+-- in contracts: what a call gives, with the buffer after it. Where it is declined the bytes are 0.
+abbrev pub given_from : Result ℕ Decline → List ℕ → Given
+given_from (Ok bytes) buffer = given (Ok tt) bytes buffer
+given_from (Err e) buffer = given (Err e) 0 buffer

@@ -2,11 +2,12 @@
 // What asks for InRange or for room here is no call of the device: its callers ask first.
 #![tactic(auto)]
 
-ghost use Rattle.std.specs.Prelude.{◌≡◌, ◌+◌, ◌*◌, ◌≤◌, length};
+ghost use Rattle.std.specs.Prelude.{◌≡◌, IfOk, ◌+◌, ◌*◌, ◌≤◌, length};
+ghost use Rattle.words.specs.Decline.{verdict_from};
 ghost use Rattle.std.proofs.lemmas.List.Edits.{sets};
-ghost use Rattle.geometry.specs.Banks.{pages_of, bank_words_of};
+ghost use Rattle.geometry.specs.Banks.{pages_of};
 ghost use Rattle.sheet_page.specs.State.{kind_pages_of};
-ghost use Rattle.sheet.specs.Sheet.{kind_lines_of, bank_lines_of, page_sheet_decline_of, given, page_sheet_of};
+ghost use Rattle.sheet.specs.Sheet.{kind_lines_of, bank_lines_of, page_sheet_decline_of, given_from, page_sheet_of};
 
 use common_declines::common_decline::common_decline;
 use device::record::Device;
@@ -14,87 +15,75 @@ use geometry::banks::Geometry;
 use geometry::layout::Layout;
 use geometry::lent::Lent;
 use sheet_line::{LINE_BYTES, put_line};
-use sheet_page::{kind_pages, page_state};
+use sheet_page::{SheetBank, kind_pages};
 use words::decline::Decline;
 
-// The answer to the request, and the bytes of the sheet: 0 where it is declined.
-#[derive(Clone, Copy)]
-pub struct Written {
-    pub decline: Decline,
-    pub bytes: usize,
-}
-
 // Writes the lines of a bank's pages of a kind at a position.
-fn put_kind(
-    out: &mut [u8],
-    at: usize,
-    layout: Layout,
-    d: Device,
-    bank: &[u32],
-    second: bool,
-    program: bool,
-)
-    requires bank_len { length bank.now ≡ bank_words_of layout.geometry }
-    requires program_in_bounds { at + 17 * kind_pages_of layout.geometry program ≤ length out.old }
-    ensures { out.new ≡ sets out.old at (kind_lines_of layout.geometry d bank.now second program) }
+fn put_kind(out: &mut [u8], at: usize, bank: SheetBank, program: bool)
+    requires { at + 17 * kind_pages_of bank.layout.geometry program ≤ length out.old }
+    ensures { out.new ≡ sets out.old at (kind_lines_of bank.entry.layout.geometry bank.entry.d bank.entry.words.now bank.entry.second program) }
 {
-    let count = kind_pages(layout, program);
-    let mut page = 0;
-    while page < count {
-        put_line(
-            out,
-            at + LINE_BYTES * page as usize,
-            page_state(layout, d, bank, second, program, page),
-        );
-        page += 1;
+    for page in 0..kind_pages(bank.layout.geometry, program) {
+        let state = bank.page_state(program, page);
+        put_line(out, at + LINE_BYTES * page as usize, state);
     }
 }
 
 // Writes the lines of a bank at a position: its boot pages, then its program pages.
-fn put_bank(out: &mut [u8], at: usize, layout: Layout, d: Device, bank: &[u32], second: bool)
-    requires bank_len { length bank.now ≡ bank_words_of layout.geometry }
-    requires g_in_bounds { at + 17 * pages_of layout.geometry ≤ length out.old }
-    ensures { out.new ≡ sets out.old at (bank_lines_of layout.geometry d bank.now second) }
+fn put_bank(out: &mut [u8], at: usize, bank: SheetBank)
+    requires { at + 17 * pages_of bank.layout.geometry ≤ length out.old }
+    ensures { out.new ≡ sets out.old at (bank_lines_of bank.entry.layout.geometry bank.entry.d bank.entry.words.now bank.entry.second) }
 {
-    put_kind(out, at, layout, d, bank, second, false);
-    put_kind(
-        out,
-        at + LINE_BYTES * layout.geometry.b as usize,
-        layout,
-        d,
-        bank,
-        second,
-        true,
-    );
+    put_kind(out, at, bank, false);
+    put_kind(out, at + LINE_BYTES * bank.layout.geometry.b as usize, bank, true);
 }
 
 // Declines 1, 2, 3 and 18, by the lengths of the banks and the buffer.
-fn page_sheet_decline(g: Geometry, d: Device, one: usize, two: usize, buffer: usize) -> Decline
-    ensures { result ≡ page_sheet_decline_of g d one two buffer }
+#[tactic(auto, unfolding(crate::specs::Sheet::page_sheet_decline_of))]
+fn page_sheet_decline(
+    g: Geometry,
+    d: Device,
+    one: usize,
+    two: usize,
+    buffer: usize,
+) -> Result<Layout, Decline>
+    ensures verdict { verdict_from result ≡ page_sheet_decline_of g d one two buffer }
+    ensures layout { IfOk result (λ layout. layout.geometry ≡ g) }
 {
-    let decline = common_decline(g, d, Lent::Banks(one, two), 0);
-    if !decline.is_accepted() {
-        return decline;
+    let layout = common_decline(g, d, Lent::Banks(one, two), 0)?;
+    if buffer < 2 * LINE_BYTES * layout.pages() as usize {
+        return Err(Decline::SheetBuffer);
     }
-    if buffer < 2 * LINE_BYTES * pages(g) as usize {
-        return Decline::SheetBuffer;
-    }
-    Decline::Accepted
+    Ok(layout)
 }
 
-// Writes a line for each page of both banks, bank 1 first, into a buffer; the bytes after the last line stay.
-pub fn page_sheet(g: Geometry, d: Device, one: &[u32], two: &[u32], out: &mut [u8]) -> Written
-    ensures { given result.decline result.bytes out.new ≡ page_sheet_of g d one.now two.now out.old }
+// Writes a line for each page of both banks, bank 1 first, into a buffer, and gives the bytes of the sheet; the bytes after the
+// last line stay.
+#[tactic(auto, unfolding(crate::specs::Sheet::page_sheet_of))]
+pub fn page_sheet(
+    g: Geometry,
+    d: Device,
+    one: &[u32],
+    two: &[u32],
+    out: &mut [u8],
+) -> Result<usize, Decline>
+    ensures { given_from result out.new ≡ page_sheet_of g d one.now two.now out.old }
 {
-    let decline = page_sheet_decline(g, d, one.len(), two.len(), out.len());
-    if !decline.is_accepted() {
-        return Written { decline, bytes: 0 };
-    }
-    let bank = LINE_BYTES * pages(g) as usize;
-    put_bank(out, 0, g, d, one, false);
-    put_bank(out, bank, g, d, two, true);
-    Written {
-        decline: Decline::Accepted,
-        bytes: 2 * bank,
-    }
+    let layout = page_sheet_decline(g, d, one.len(), two.len(), out.len())?;
+    let first = SheetBank {
+        layout,
+        d,
+        words: one,
+        second: false,
+    };
+    let other = SheetBank {
+        layout,
+        d,
+        words: two,
+        second: true,
+    };
+    let bank = LINE_BYTES * layout.pages() as usize;
+    put_bank(out, 0, first);
+    put_bank(out, bank, other);
+    Ok(2 * bank)
 }

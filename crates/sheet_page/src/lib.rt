@@ -26,6 +26,16 @@ pub struct PageState {
     pub quads: usize,
 }
 
+// A bank of a sign: bank 1 or, with second, bank 2, and the device whose swap bits and protection its pages are under.
+#[derive(Clone, Copy)]
+pub struct SheetBank<'a> {
+    pub layout: Layout,
+    pub d: Device,
+    pub words: &'a [u32],
+    pub second: bool,
+    ghost words_len: { length words.now ≡ bank_words_of layout.geometry },
+}
+
 // How many of so many quads of a bank are not all ones. Not a call of the device: its callers show that they lie in the
 // bank.
 fn used_quads(bank: &[u32], first: usize, count: usize) -> usize
@@ -70,28 +80,22 @@ fn page_index(layout: Layout, program: bool, page: u32) -> u32
     if program { layout.geometry.b + page } else { page }
 }
 
-// What the sheet says of a page of a bank.
-pub fn page_state(
-    layout: Layout,
-    d: Device,
-    bank: &[u32],
-    second: bool,
-    program: bool,
-    page: u32,
-) -> PageState
-    requires bank_len { length bank.now ≡ bank_words_of layout.geometry }
-    requires page_bound { page < kind_pages_of layout.geometry program }
-    ensures { result ≡ page_state_of layout.geometry d bank.now second program page }
-{
-    let upper = is_upper(d, second, program);
-    let count = layout.page_quads() as usize;
-    let first = page_index(layout, program, page) as usize * count;
-    PageState {
-        second,
-        program,
-        page: page as usize,
-        upper,
-        protected: is_protected(layout, d, program, upper, page),
-        quads: used_quads(bank, first, count),
+impl<'a> SheetBank<'a> {
+    // What the sheet says of a page of the bank.
+    pub fn page_state(self, program: bool, page: u32) -> PageState
+        requires { page < kind_pages_of self.layout.geometry program }
+        ensures { result ≡ page_state_of self.entry.layout.geometry self.entry.d self.entry.words.now self.entry.second program page }
+    {
+        let upper = is_upper(self.d, self.second, program);
+        let count = self.layout.page_quads() as usize;
+        let first = page_index(self.layout, program, page) as usize * count;
+        PageState {
+            second: self.second,
+            program,
+            page: page as usize,
+            upper,
+            protected: is_protected(self.layout, self.d, program, upper, page),
+            quads: used_quads(self.words, first, count),
+        }
     }
 }

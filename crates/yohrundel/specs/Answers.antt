@@ -19,10 +19,8 @@ use Rattle.planner.specs.Planner.{Planned}
 use Rattle.sheet.specs.Sheet.{Given}
 use Rattle.script_write.specs.Script.{Writing}
 use Rattle.script_smallest.specs.Smallest.{Smallest}
-use Rattle.reach.specs.declared.ReachAnswer.{ReachAnswer}
-use Rattle.reach.specs.declared.ReachAnswer.TheVariants.{Action, NoAction, Words, Declined}
-use Rattle.reach.specs.declared.Reached.{Reached}
-use Rattle.reach.specs.Reach.{reach_number_of}
+use Rattle.reach.specs.Reach.{ReachAnswer, Reached, reach_number_of}
+use Rattle.reach.specs.Reach.ReachAnswer.{Action, NoAction, Words, Declined}
 use Rattle.yohrundel.specs.declared.answers.EventAnswer.{EventAnswer}
 use Rattle.yohrundel.specs.declared.answers.DeviceAnswer.{DeviceAnswer}
 use Rattle.yohrundel.specs.declared.answers.ResetAnswer.{ResetAnswer}

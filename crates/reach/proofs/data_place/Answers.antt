@@ -17,15 +17,15 @@ place_few g ok i l pages quads number p q n =
 
 pub overflow_mul-result : goal.overflow_mul-result
 overflow_mul-result c =
-    let few = place_few c.args.g c.requires.in_range c.args.i c.requires _ _ _ c.pages.ensures c.page_quads.ensures c.programmed_at.ensures in
+    let few = place_few c.args.layout.geometry c.args.layout.in_range c.args.i c.requires _ _ _ c.pages.ensures c.page_quads.ensures c.programmed_at.ensures in
     record { fits = omega (arith, few) }
 
 pub overflow_add-result : goal.overflow_add-result
 overflow_add-result c =
-    let few = place_few c.args.g c.requires.in_range c.args.i c.requires _ _ _ c.pages.ensures c.page_quads.ensures c.programmed_at.ensures in
+    let few = place_few c.args.layout.geometry c.args.layout.in_range c.args.i c.requires _ _ _ c.pages.ensures c.page_quads.ensures c.programmed_at.ensures in
     record { fits = omega (arith, few) }
 
 pub overflow_add-result-3 : goal.overflow_add-result-3
 overflow_add-result-3 c =
-    let few = place_few c.args.g c.requires.in_range c.args.i c.requires _ _ _ c.pages.ensures c.page_quads.ensures c.programmed_at.ensures in
+    let few = place_few c.args.layout.geometry c.args.layout.in_range c.args.i c.requires _ _ _ c.pages.ensures c.page_quads.ensures c.programmed_at.ensures in
     record { fits = omega (arith, few) }

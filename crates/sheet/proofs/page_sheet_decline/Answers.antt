@@ -1,30 +1,22 @@
 -- The first test that fails decides.
-use Rattle.std.proofs.Common.{◌∙◌, sym, ap, arith}
+use Rattle.std.proofs.Common.{sym, ap, arith}
 use borrow.Author.Tests.{le-leb, lt-leb}
-use Rattle.words.specs.Decline.{accepted_of}
-use Rattle.common_declines.proofs.CommonDeclineLaws.{ready}
+use Rattle.geometry.specs.Banks.{pages_of}
 use Rattle.sheet.specs.Sheet.{sheet_bytes_of, page_sheet_decline_of}
 use Rattle.sheet.proofs.page_sheet_decline.Goals as goal
 
-pub returns-then-not-is_accepted : goal.returns-then-not-is_accepted
+pub returns-then-buffer-pages-clause-verdict : goal.returns-then-buffer-pages-clause-verdict
 unfolding page_sheet_decline_of
-returns-then-not-is_accepted c =
-    let e = c.common_decline-decline.ensures in
-    rw (ap accepted_of (sym e) ∙ sym c.is_accepted.ensures ∙ c.if-not-is_accepted.true) e
+returns-then-buffer-pages-clause-verdict c =
+    rw (
+      ← c.in_ok-layout.ensures.verdict,
+      lt-leb (sheet_bytes_of c.args.g) c.args.buffer (omega (arith, c.if-buffer-pages.true, c.pages.ensures, ap pages_of c.in_ok-layout.ensures.layout)),
+    )
 
-pub pages-requires : goal.pages-requires
-pages-requires c =
-    let accepted = ap accepted_of (sym c.common_decline-decline.ensures) ∙ sym c.is_accepted.ensures ∙ c.if-not-is_accepted.false in
-    (ready _ _ _ _ accepted).lent.range
-
-pub returns-then-buffer-pages : goal.returns-then-buffer-pages
+pub returns-clause-verdict : goal.returns-clause-verdict
 unfolding page_sheet_decline_of
-returns-then-buffer-pages c =
-    let accepted = ap accepted_of (sym c.common_decline-decline.ensures) ∙ sym c.is_accepted.ensures ∙ c.if-not-is_accepted.false in
-    rw (accepted, lt-leb (sheet_bytes_of c.args.g) c.args.buffer (omega (arith, c.if-buffer-pages.true, c.pages.ensures)))
-
-pub returns : goal.returns
-unfolding page_sheet_decline_of
-returns c =
-    let accepted = ap accepted_of (sym c.common_decline-decline.ensures) ∙ sym c.is_accepted.ensures ∙ c.if-not-is_accepted.false in
-    rw (accepted, le-leb (sheet_bytes_of c.args.g) c.args.buffer (omega (arith, c.if-buffer-pages.false, c.pages.ensures)))
+returns-clause-verdict c =
+    rw (
+      ← c.in_ok-layout.ensures.verdict,
+      le-leb (sheet_bytes_of c.args.g) c.args.buffer (omega (arith, c.if-buffer-pages.false, c.pages.ensures, ap pages_of c.in_ok-layout.ensures.layout)),
+    )

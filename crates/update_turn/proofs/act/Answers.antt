@@ -2,7 +2,6 @@
 use Rattle.std.proofs.Common.{◌≡◌, ◌+◌, Ok, true, false, refl, sym, ap, subst, ◌∙◌}
 use Rattle.flash.specs.Write.{Write, write_from, Fits}
 use Rattle.update.specs.Answers.{turned_from}
-use Rattle.geometry.proofs.SizeLaws.{in-range}
 use Rattle.device.specs.Record.{running}
 use Rattle.device.specs.State.{state}
 use Rattle.register_access.specs.Store.{may_store_of}
