@@ -1,7 +1,7 @@
 // What the next step of a running operation does: a step carries it out, and a reset tears it.
 // What asks for Runs, or for room in the banks, is no call of the device: its callers decide their decline first.
-ghost use Rattle.std.specs.Prelude.{◌≡◌, ◌+◌, ◌*◌, ◌^◌, ◌<◌, ◌≤◌, true, length};
-ghost use Rattle.std.specs.Option.{is_some, unwrap_or};
+ghost use Rattle.std.specs.Prelude.{◌≡◌, ℕ, Bool, ◌+◌, ◌*◌, ◌^◌, ◌<◌, ◌≤◌, true, length};
+ghost use Rattle.std.specs.Option.{is_none, is_some, unwrap_or};
 ghost use Rattle.words.specs.Word.{pick};
 ghost use Rattle.words.specs.Quad.{quad_at, blank_quad};
 ghost use Rattle.geometry.specs.Banks.{InRange, bank_words_of};
@@ -32,7 +32,7 @@ pub struct Effect {
 }
 
 // Where the quad of the next step stands.
-#[tactic(auto, unfolding(crate::specs::Effect::step_at_of))]
+#[tactic(auto, using(crate::proofs::EffectLaws::steps_high), unfolding(crate::specs::Effect::step_at_of))]
 pub fn step_location(g: Geometry, d: Device) -> Location
     requires { Runs g d }
     ensures { stands_of result ≡ step_location_of g d }
@@ -111,38 +111,26 @@ pub fn old_quad(one: &[u32], two: &[u32], second: bool, quad: u32) -> [u32; 4]
     quad_at(bank, quad as usize)
 }
 
-// What the next step does to a quad that is not in a protected boot page.
+// The words that the next step writes over a quad that is not in a protected boot page. Where there are none it aborts.
 #[tactic(auto, unfolding(crate::specs::Effect::effect_at_of))]
-fn effect_at(d: Device, sram: &[u32], second: bool, quad: u32, old: [u32; 4]) -> Effect
-    ensures { effect_from result ≡ effect_at_of d sram.now second quad old }
+fn intended(d: Device, sram: &[u32], old: [u32; 4]) -> Option<[u32; 4]>
+    ensures { (second : Bool) (quad : ℕ) → effect (is_none result) (is_some result) second quad (unwrap_or result blank_quad)
+        ≡ effect_at_of d sram.now second quad old }
 {
     let op = op(d);
     if ROW_PROGRAM < op {
-        return doing(false, second, quad, Some([0xFFFF_FFFF; 4]));
+        return Some([0xFFFF_FFFF; 4]);
     }
     if !is_blank(old) {
-        return doing(true, second, quad, None);
+        return None;
     }
     if op == QUAD_PROGRAM {
-        return doing(false, second, quad, Some(d.launched.nvmdata));
+        return Some(d.launched.nvmdata);
     }
     if !source_fits(d, sram.len()) {
-        return doing(true, second, quad, None);
+        return None;
     }
-    doing(false, second, quad, Some(quad_from(sram, source_word(d))))
-}
-
-fn doing(aborts: bool, second: bool, quad: u32, words: Option<[u32; 4]>) -> Effect
-    ensures { effect_from result ≡ effect aborts (is_some words) second quad (unwrap_or words blank_quad) }
-{
-    Effect {
-        aborts,
-        write: Write {
-            second,
-            quad,
-            words,
-        },
-    }
+    Some(quad_from(sram, source_word(d)))
 }
 
 // What the next step of the running operation does.
@@ -156,7 +144,22 @@ pub fn next_effect(g: Geometry, d: Device, one: &[u32], two: &[u32], sram: &[u32
     let second = second_at(d, l);
     let quad = l.quad_index(g);
     if is_blocked(g, d, l) {
-        return doing(false, second, quad, None);
+        return Effect {
+            aborts: false,
+            write: Write {
+                second,
+                quad,
+                words: None,
+            },
+        };
     }
-    effect_at(d, sram, second, quad, old_quad(one, two, second, quad))
+    let words = intended(d, sram, old_quad(one, two, second, quad));
+    Effect {
+        aborts: words.is_none(),
+        write: Write {
+            second,
+            quad,
+            words,
+        },
+    }
 }

@@ -8,13 +8,9 @@ pub fn interleave_two(first: &[u8], second: &[u8], target: &mut [u8])
     requires { (length second.now ≡ length first.now) × (2 * length first.now ≤ length target.old) }
     ensures { Interleaved (first.now ∷ second.now ∷ []) target.new (length first.now) }
 {
-    let n = first.len();
-    let mut i = 0;
-    while i < n {
-        let place = 2 * i;
-        target[place] = first[i];
-        target[place + 1] = second[i];
-        i += 1;
+    for i in 0..first.len() {
+        target[2 * i] = first[i];
+        target[2 * i + 1] = second[i];
     }
 }
 
@@ -26,8 +22,8 @@ pub fn interleave_four(first: &[u8], second: &[u8], third: &[u8], fourth: &[u8],
     ensures { Interleaved (first.now ∷ second.now ∷ third.now ∷ fourth.now ∷ [])
         target.new (length first.now) }
 {
-    let mut even: [u8; 256] = [0; 256];
-    let mut odd: [u8; 256] = [0; 256];
+    let mut even = [0u8; 256];
+    let mut odd = [0u8; 256];
     interleave_two(first, third, &mut even);
     interleave_two(second, fourth, &mut odd);
     let n = 2 * first.len();

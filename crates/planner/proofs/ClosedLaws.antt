@@ -10,9 +10,8 @@ use lib.Dec.{ltb, leb, eqb}
 use borrow.Author.Tests.{ltb-true, ltb-false, leb-true, leb-false, eqb-true, eqb-false}
 use Rattle.words.specs.Word.{pick}
 use Rattle.words.proofs.PickLaws.{and_both}
-use Rattle.planner.specs.declared.plan.Planned.{Planned}
 use Rattle.planner.specs.Windows.{week, Window, window, window_count_of, window_at, window_in_range_of, windows_in_range_of, in_range_of}
-use Rattle.planner.specs.Planner.{fits_in_of, least_wait_of, answer_of, plan_of}
+use Rattle.planner.specs.Planner.{Planned, fits_in_of, least_wait_of, answer_of, plan_of}
 use Rattle.words.proofs.FirstLaws.{First, first_is}
 use Rattle.planner.proofs.WindowLaws.{offset, wait_whole, wait_none, wait_at_once, wait_next}
 use Rattle.planner.proofs.RangeLaws.{numbers_range, window_range, inside}

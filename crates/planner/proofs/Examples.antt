@@ -5,9 +5,8 @@ use Rattle.std.specs.Prelude.{Ok, Err}
 use Prim.Native.Nat.{ℕ}
 use Rattle.words.specs.declared.decline.Decline.{Decline}
 use Rattle.words.specs.Decline.{Verdict, number_of}
-use Rattle.planner.specs.declared.plan.Planned.{Planned}
 use Rattle.planner.specs.Windows.{window_in_range_of, numbers_in_range_of, in_range_of}
-use Rattle.planner.specs.Planner.{planned}
+use Rattle.planner.specs.Planner.{Planned, planned}
 use Rattle.planner.specs.Examples.{Answers, Examples}
 use Rattle.planner.proofs.ClosedLaws.{plan_closed}
 

@@ -6,3 +6,4 @@ pub mod PlanLaws
 pub mod OnlyPlanLaws
 pub mod ClosedLaws
 pub mod Examples
+pub mod WeekLaws

@@ -8,8 +8,7 @@ use native.Mathlib.Decide.{ℕ_discrete, dec_lt}
 use native.Mathlib.Omega.{arith}
 use Rattle.words.specs.Decline.{number_of}
 use Rattle.words.proofs.Numbers.{numbers}
-use Rattle.planner.specs.declared.plan.Planned.{Planned}
-use Rattle.planner.specs.Planner.{planned, plan_of}
+use Rattle.planner.specs.Planner.{Planned, planned, plan_of}
 use Rattle.planner.specs.PlanLaws.{Plans, PlanLaws}
 use Rattle.planner.proofs.PlanLaws.{plans}
 

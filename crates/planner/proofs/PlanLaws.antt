@@ -1,7 +1,8 @@
 -- The answers of a plan, by which of the two tests holds, and what they tell: the search stops at the first wait that fits.
 -- Assumes nothing.
 use mathlib.Core.Path.{◌≡◌, refl, sym, ap, ◌∙◌}
-use Rattle.std.specs.Prelude.{Ok, Err}
+use Rattle.std.specs.Prelude.{Some, None, Ok, Err}
+use Rattle.std.specs.Option.{ok_or}
 use mathlib.Core.Bool.{Bool, true, false}
 use mathlib.Core.List.{List}
 use mathlib.Core.Logic.{◌⊎◌, inl, inr}
@@ -12,12 +13,12 @@ use native.Mathlib.Omega.{arith}
 use lib.Dec.{ltb}
 use lib.ListN.{length}
 use borrow.Author.Tests.{ltb-true, ltb-false, lt-ltb, le-ltb}
+use Rattle.words.specs.Word.{pick}
 use Rattle.words.specs.declared.decline.Decline.{Decline}
 use Rattle.words.specs.Decline.{number_of}
 use Rattle.words.proofs.BitLaws.{true_not_false}
-use Rattle.planner.specs.declared.plan.Planned.{Planned}
 use Rattle.planner.specs.Windows.{week, window_count_of, windows_in_range_of, numbers_in_range_of, in_range_of}
-use Rattle.planner.specs.Planner.{fits_of, least_wait_of, planned, answer_of, plan_of}
+use Rattle.planner.specs.Planner.{Planned, fits_of, least_wait_of, in_week, planned, planned_from, answer_of, plan_of}
 use Rattle.planner.specs.PlanLaws.{InRange, InOneWindow, Plans}
 use Rattle.words.proofs.FirstLaws.{first_below}
 use Rattle.planner.proofs.FitLaws.{fits_one, one_fits}
@@ -154,3 +155,15 @@ module _ (minute duration : ℕ) (lent : List ℕ) where
         only_then = only_then;
         beside = beside;
       }
+
+-- ---- the answer by the option of the least wait
+
+pub plan_least : (minute duration : ℕ) (lent : List ℕ) → in_range_of minute duration lent ≡ true
+    → planned_from (ok_or (in_week (least_wait_of minute duration lent (window_count_of lent))) Decline.NoWait) ≡ plan_of minute duration lent
+unfolding plan_of
+plan_least minute duration lent range = rw range (go (ltb (least_wait_of minute duration lent (window_count_of lent)) week))
+  where
+    go : (t : Bool) → planned_from (ok_or (pick t (Some (least_wait_of minute duration lent (window_count_of lent))) None) Decline.NoWait)
+        ≡ pick t (planned (Ok tt) (least_wait_of minute duration lent (window_count_of lent))) (planned (Err Decline.NoWait) 0)
+    go true = refl
+    go false = refl

@@ -1,8 +1,7 @@
 -- Plans whose answers a reader can work out. Assumes nothing.
 use Rattle.std.specs.Prelude.{◌≡◌, [], ◌∷◌, ℕ}
 use Rattle.words.specs.Decline.{number_of}
-use Rattle.planner.specs.declared.plan.Planned.{Planned}
-use Rattle.planner.specs.Planner.{plan_of}
+use Rattle.planner.specs.Planner.{Planned, plan_of}
 
 -- an answer has this number and this wait
 abbrev pub Answers : Planned → ℕ → ℕ → Type 0

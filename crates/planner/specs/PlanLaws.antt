@@ -1,8 +1,7 @@
 -- W-201, "Garage hours": what is asked of the answer to a plan, and that this fixes it. Assumes nothing.
 use Rattle.std.specs.Prelude.{ℕ, ◌+◌, ◌*◌, ◌%◌, ◌≤◌, ◌<◌, ◌≡◌, List, ◌⊎◌, length, get_or}
 use Rattle.words.specs.Decline.{number_of}
-use Rattle.planner.specs.declared.plan.Planned.{Planned}
-use Rattle.planner.specs.Planner.{plan_of}
+use Rattle.planner.specs.Planner.{Planned, plan_of}
 
 -- "any of these numbers", all of them in range
 pub record InRange (minute duration : ℕ) (lent : List ℕ) : Type 0 where

@@ -1,9 +1,8 @@
 -- The plan: the smallest wait after which all minutes lie in the same window. Assumes nothing.
-use Rattle.std.specs.Prelude.{ℕ, ◌+◌, ◌%◌, Bool, List, ltb, Ok, Err}
+use Rattle.std.specs.Prelude.{ℕ, ◌+◌, ◌%◌, Bool, List, Option, Some, None, Result, Ok, Err, ltb}
 use Rattle.words.specs.Word.{pick, all_below, any_below, first_from}
 use Rattle.words.specs.declared.decline.Decline.{Decline}
 use Rattle.words.specs.Decline.{Verdict}
-use Rattle.planner.specs.declared.plan.Planned.{Planned}
 use Rattle.planner.specs.Windows.{week, Window, window_count_of, window_at, held_of, in_range_of}
 
 -- after a wait, "all those minutes, counted modulo 10,080, lie in" a window
@@ -18,6 +17,15 @@ fits_of minute duration lent n wait = any_below (λ i. fits_in_of minute duratio
 abbrev pub least_wait_of : ℕ → ℕ → List ℕ → ℕ → ℕ
 least_wait_of minute duration lent n = first_from (fits_of minute duration lent n) 0 week
 
+-- a wait of the week, if it is one
+abbrev pub in_week : ℕ → Option ℕ
+in_week wait = pick (ltb wait week) (Some wait) None
+
+-- the answer: the verdict, the wait
+pub record Planned : Type 0 where
+  pub decline : Verdict
+  pub wait : ℕ
+
 abbrev pub planned : Verdict → ℕ → Planned
 planned decline wait = record { decline = decline; wait = wait }
 
@@ -30,3 +38,8 @@ unfoldable pub plan_of : ℕ → ℕ → List ℕ → Planned
 plan_of minute duration lent =
     let wait = least_wait_of minute duration lent (window_count_of lent) in
     answer_of (in_range_of minute duration lent) (ltb wait week) wait
+
+-- in contracts: the answer that a plan gives. Where it is declined the wait is 0.
+abbrev pub planned_from : Result ℕ Decline → Planned
+planned_from (Ok wait) = planned (Ok tt) wait
+planned_from (Err e) = planned (Err e) 0

@@ -1,16 +1,13 @@
 -- Windows of the week: the minutes that each holds, and decline 15. Assumes nothing.
 use Rattle.std.specs.Prelude.{ℕ, ◌+◌, ◌-◌, ◌*◌, ◌/◌, ◌%◌, Bool, ◌&&◌, List, ltb, leb, eqb, get_or, length}
 use Rattle.words.specs.Word.{all_below}
+pub use Rattle.planner.specs.declared.windows.Window.{Window}
 
 -- "A week has minutes 0 to 10,079": so many
 abbrev pub week : ℕ
 week = 10080
 
 -- "A window has a start minute and a length"
-pub record Window : Type 0 where
-  pub start : ℕ
-  pub length : ℕ
-
 abbrev pub window : ℕ → ℕ → Window
 window start length = record { start = start; length = length }
 

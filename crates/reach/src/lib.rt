@@ -53,22 +53,17 @@ impl ReachAnswer {
     }
 }
 
-// With word i, which is higher than the others, one more.
-fn with_word(d: Difference, i: u32) -> Difference
-    requires { d.count < 2000000 }
-    ensures { result ≡ with_word_of d i }
-{
-    if d.count == 0 {
-        return Difference {
-            count: 1,
-            lowest: i,
+impl Difference {
+    // With word i, which is higher than the others, one more.
+    fn with_word(self, i: u32) -> Difference
+        requires { self.count < 2000000 }
+        ensures { result ≡ with_word_of self i }
+    {
+        Difference {
+            count: self.count + 1,
+            lowest: if self.count == 0 { i } else { self.lowest },
             highest: i,
-        };
-    }
-    Difference {
-        count: d.count + 1,
-        lowest: d.lowest,
-        highest: i,
+        }
     }
 }
 
@@ -83,12 +78,10 @@ fn compare_images(image: &[u32], other: &[u32]) -> Difference
         lowest: 0,
         highest: 0,
     };
-    let mut i = 0;
-    while i < image.len() {
+    for i in 0..image.len() {
         if image[i] != other[i] {
-            d = with_word(d, i as u32);
+            d = d.with_word(i as u32);
         }
-        i += 1;
     }
     d
 }
@@ -100,10 +93,12 @@ fn programmed_at(g: Geometry, quad: u32) -> u32
     requires quad_bound { quad < bank_quads_of g }
     ensures { result ≡ programmed_at_of g quad }
 {
-    if quad < boot_quads(g) {
-        return g.p * page_quads(g) + quad;
+    let boot = boot_quads(g);
+    if quad < boot {
+        g.p * page_quads(g) + quad
+    } else {
+        quad - boot
     }
-    quad - boot_quads(g)
 }
 
 // The place of the store of a word of the image to its NVMDATA register.
@@ -124,12 +119,12 @@ fn answer_of(g: Geometry, d: Difference) -> ReachAnswer
     ensures { result ≡ answer_of g d }
 {
     if d.count != 1 {
-        return ReachAnswer::Words(d);
+        ReachAnswer::Words(d)
+    } else if d.lowest / 4 == sequence_quad(g) {
+        ReachAnswer::NoAction
+    } else {
+        ReachAnswer::Action(data_place(g, d.lowest))
     }
-    if d.lowest / 4 == sequence_quad(g) {
-        return ReachAnswer::NoAction;
-    }
-    ReachAnswer::Action(data_place(g, d.lowest))
 }
 
 // What two images differ in, and where they differ in one word the place of the action that differs. It changes nothing.

@@ -1,1 +1,2 @@
 pub mod ScriptSentences
+pub mod PutLaws

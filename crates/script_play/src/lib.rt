@@ -11,7 +11,7 @@ use geometry::banks::Geometry;
 use geometry::lent::Lent;
 use script_format::{is_script, record_at};
 use script_record::play_record;
-use text::lines::{lines_length, write_line};
+use text::lines::{Line, lines_length, write_line};
 use words::decline::Decline;
 
 // The bytes of a play's whole output, and the device after it. Where the buffer is shorter, it holds the output's front.
@@ -55,14 +55,20 @@ fn play_accepted(
     let mut device = d;
     let mut bytes = 0;
     for i in 0..script.len() / 8 {
-        let (number, event) = match play_record(g, device, one, two, sram, record_at(script, i)) {
+        let (answer, event) = match play_record(g, device, one, two, sram, record_at(script, i)) {
             Ok(outcome) => {
                 device = outcome.device;
                 (0, outcome.event)
             }
             Err(decline) => (decline.number(), false),
         };
-        bytes = write_line(out, bytes, i, number, device.nvmcon.0, event);
+        let line = Line {
+            number: i,
+            answer,
+            con: device.nvmcon.0,
+            event,
+        };
+        bytes = write_line(out, bytes, line);
     }
     Playback { bytes, device }
 }

@@ -1,37 +1,34 @@
 -- Bytes written one after another: a number's blanks and its digits, the columns of a line.
 -- Assumes nothing.
 use mathlib.Core.Path.{◌≡◌}
-use mathlib.Core.List.{List, [], ◌∷◌, ◌++◌}
-use Prim.Native.Nat.{ℕ, suc, ◌+◌, ◌-◌, ◌≤◌, ◌<◌}
+use mathlib.Core.List.{List, ◌++◌}
+use Prim.Native.Nat.{ℕ, ◌+◌, ◌-◌, ◌≤◌, ◌<◌}
 use native.Mathlib.Omega.{arith}
-use lib.ListN.{set, replicate, length-replicate}
+use borrow.Rule.Slice.PartMut.{put_mid}
+use lib.ListN.{length, replicate, length-replicate}
 use lib.Seq.{sets}
-use Rattle.text.specs.Digits.{digits_of, width_of}
-use Rattle.text.specs.Lines.{blank, line_feed, flag_of}
-use Rattle.text.proofs.BufferLaws.{sets_append, sets_after}
+use Rattle.std.proofs.Common.{append_assoc}
+use Rattle.words.proofs.PartLaws.{put_part}
+use Rattle.text.specs.Digits.{width_of}
+use Rattle.text.specs.Lines.{blank, line_feed, flag_of, decimal_of}
+use Rattle.text.proofs.BufferLaws.{sets_after}
 use Rattle.sheet_page.specs.declared.PageState.{PageState}
-use Rattle.sheet_line.specs.Line.{right_of, right_column_of, letter_of, bank_number_of, kind_letter_of, side_letter_of, line_of}
-use Rattle.sheet_line.proofs.WidthLaws.{page_width, bank_width, flag_width, right_length, right_column_length}
+use Rattle.sheet_line.specs.Line.{right_column_of, letter_of, bank_number_of, kind_letter_of, side_letter_of, line_of}
+use Rattle.sheet_line.proofs.WidthLaws.{page_width, bank_width, flag_width, right_column_length}
 
--- a blank, and then the others
-pub put_blank : (out : List ℕ) (at count i : ℕ) → i < count
-    → sets (set out (at + i) blank) (at + (i + 1)) (replicate (count - (i + 1)) blank) ≡ sets out (at + i) (replicate (count - i) blank)
-put_blank out at count i l =
-    let e : count - i ≡ suc (count - (i + 1)) = omega arith in
-    let s : at + (i + 1) ≡ suc (at + i) = omega arith in
-    rw (e, s)
-
--- the blanks, and then the digits
-pub put_right : (out : List ℕ) (at columns n : ℕ)
-    → sets (sets out at (replicate (columns - width_of n) blank)) (at + (columns - width_of n)) (digits_of 10 n (width_of n)) ≡ sets out at (right_of columns n)
-put_right out at columns n =
-    let padding = replicate (columns - width_of n) blank in
-    rw (sets_append out at padding (digits_of 10 n (width_of n)), length-replicate (columns - width_of n) blank)
-
--- a number, and then the byte after it
-pub put-right-column : (out : List ℕ) (at columns n end : ℕ) → width_of n ≤ columns
-    → set (sets out at (right_of columns n)) (at + columns) end ≡ sets out at (right_column_of columns n end)
-put-right-column out at columns n end l = rw (sets_append out at (right_of columns n) (end ∷ []), right_length columns n l)
+-- the blanks, and then the number and the byte after it
+pub put-right-column : (out : List ℕ) (at columns n end padding : ℕ) → width_of n ≤ columns → at + columns + 1 ≤ length out → padding ≡ columns - width_of n
+    → sets (put_mid at (at + padding - at) out (replicate padding blank)) (at + padding) (decimal_of n end) ≡ sets out at (right_column_of columns n end)
+put-right-column out at columns n end padding l room e =
+    let blanks = replicate padding blank in
+    let long : length blanks ≡ padding = length-replicate padding blank in
+    let part = put_part out blanks at (at + padding - at) (omega (arith, long)) (omega arith) in
+    rw (
+      part,
+      ← sets_after out at (at + padding) blanks (decimal_of n end) (omega (arith, long)),
+      e,
+      append_assoc,
+    )
 
 -- the columns of a line, each after the one before
 pub put-line : (out : List ℕ) (at : ℕ) (s : PageState) → s.page < 1000

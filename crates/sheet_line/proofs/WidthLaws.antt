@@ -1,11 +1,10 @@
 -- The widths: a page number below 1,000 has three digits at most and a count of quads below 10,000 four, so that a line is 17 bytes.
 -- Assumes nothing.
-use mathlib.Core.Path.{◌≡◌, refl}
+use mathlib.Core.Path.{◌≡◌}
 use mathlib.Core.Bool.{Bool, true, false}
 use mathlib.Core.List.{[], ◌∷◌, ◌++◌}
 use Prim.Native.Nat.{ℕ, ◌+◌, ◌≤◌, ◌<◌}
 use native.Mathlib.Omega.{arith}
-use mir.Val.{bool_byte}
 use lib.ListN.{length, length-append, length-replicate}
 use Rattle.text.specs.Digits.{width_of}
 use Rattle.text.specs.Lines.{blank, line_feed, flag_of}
@@ -26,16 +25,8 @@ pub bank_width : (second : Bool) → width_of (bank_number_of second) ≤ 1
 bank_width true = omega (arith, width_one 2 (omega arith))
 bank_width false = omega (arith, width_one 1 (omega arith))
 
--- a test as a byte is its flag
-pub flag_byte : (t : Bool) → bool_byte t ≡ flag_of t
-flag_byte true = refl
-flag_byte false = refl
-
 pub flag_width : (protected : Bool) → width_of (flag_of protected) ≤ 1
 flag_width protected = omega (arith, width_one (flag_of protected) (flag_digit protected))
-
-pub flag_fits : (protected : Bool) → width_of (bool_byte protected) ≤ 1
-flag_fits protected = rw (flag_byte protected) (flag_width protected)
 
 -- ---- the columns of a line
 

@@ -2,39 +2,14 @@
 // nothing.
 #![tactic(auto)]
 
-ghost use Rattle.std.specs.Prelude.{◌≡◌, ◌+◌, ◌≤◌, ◌<◌, length, replicate};
+ghost use Rattle.std.specs.Prelude.{◌≡◌, ◌+◌, ◌≤◌, ◌<◌, length};
 ghost use Rattle.std.proofs.lemmas.List.Edits.{sets};
 ghost use Rattle.text.specs.Digits.{width_of};
-ghost use Rattle.text.specs.Lines.{blank};
-ghost use Rattle.sheet_line.specs.Line.{right_of, right_column_of, letter_of, bank_number_of, kind_letter_of, side_letter_of, line_of};
+ghost use Rattle.sheet_line.specs.Line.{right_column_of, letter_of, bank_number_of, kind_letter_of, side_letter_of, line_of};
 
 use sheet_page::PageState;
-use text::digits::{put_digits, width};
-use text::lines::{BLANK, LINE_FEED};
-
-// Writes so many blanks at a position.
-fn put_blanks(out: &mut [u8], at: usize, count: usize)
-    requires { at + count ≤ length out.old }
-    ensures { out.new ≡ sets out.old at (replicate count blank) }
-{
-    let mut i = 0;
-    while i < count {
-        out[at + i] = BLANK;
-        i += 1;
-    }
-}
-
-// Writes a number right-aligned in so many columns.
-fn put_right(out: &mut [u8], at: usize, columns: usize, number: usize)
-    requires number_bound { width_of number ≤ columns }
-    requires columns_in_bounds { at + columns ≤ length out.old }
-    ensures { out.new ≡ sets out.old at (right_of columns number) }
-{
-    let count = width(number);
-    let padding = columns - count;
-    put_blanks(out, at, padding);
-    put_digits(out, at + padding, number, 10, count);
-}
+use text::digits::width;
+use text::lines::{BLANK, LINE_FEED, put_decimal};
 
 // Writes a number right-aligned in so many columns, and the byte after it.
 fn put_right_column(out: &mut [u8], at: usize, columns: usize, number: usize, end: u8)
@@ -42,8 +17,9 @@ fn put_right_column(out: &mut [u8], at: usize, columns: usize, number: usize, en
     requires columns_in_bounds { at + columns + 1 ≤ length out.old }
     ensures { out.new ≡ sets out.old at (right_column_of columns number end) }
 {
-    put_right(out, at, columns, number);
-    out[at + columns] = end;
+    let padding = columns - width(number);
+    out[at..at + padding].fill(BLANK);
+    put_decimal(out, at + padding, number, end);
 }
 
 // Writes a letter, and the blank after it.
@@ -58,28 +34,19 @@ fn put_letter(out: &mut [u8], at: usize, letter: u8)
 fn bank_number(second: bool) -> usize
     ensures { result ≡ bank_number_of second }
 {
-    if second {
-        return 2;
-    }
-    1
+    if second { 2 } else { 1 }
 }
 
 fn kind_letter(program: bool) -> u8
     ensures { result ≡ kind_letter_of program }
 {
-    if program {
-        return b'P';
-    }
-    b'B'
+    if program { b'P' } else { b'B' }
 }
 
 fn side_letter(upper: bool) -> u8
     ensures { result ≡ side_letter_of upper }
 {
-    if upper {
-        return b'U';
-    }
-    b'L'
+    if upper { b'U' } else { b'L' }
 }
 
 // The bytes of a line.
@@ -95,6 +62,6 @@ pub fn put_line(out: &mut [u8], at: usize, s: PageState)
     put_letter(out, at + 2, kind_letter(s.program));
     put_right_column(out, at + 4, 3, s.page, BLANK);
     put_letter(out, at + 8, side_letter(s.upper));
-    put_right_column(out, at + 10, 1, s.protected as usize, BLANK);
+    put_right_column(out, at + 10, 1, usize::from(s.protected), BLANK);
     put_right_column(out, at + 12, 4, s.quads, LINE_FEED);
 }

@@ -4,7 +4,7 @@
 
 ghost use Rattle.std.specs.Prelude.{◌≡◌, ◌+◌, ◌*◌, ◌≤◌, ◌<◌, length};
 ghost use Rattle.geometry.specs.Banks.{InRange, bank_words_of};
-ghost use Rattle.sheet_page.specs.State.{used_of, used_quads_of, swap_of, upper_of, kind_pages_of, page_index_of, page_state_of};
+ghost use Rattle.sheet_page.specs.State.{used_quads_of, swap_of, upper_of, kind_pages_of, page_index_of, page_state_of};
 
 use device::record::Device;
 use device::registers::Nvmcon;
@@ -25,29 +25,15 @@ pub struct PageState {
     pub quads: usize,
 }
 
-// 1 for a quad that is not all ones.
-fn used(quad: [u32; 4]) -> usize
-    ensures { result ≡ used_of quad }
-{
-    if is_blank(quad) {
-        return 0;
-    }
-    1
-}
-
 // How many of so many quads of a bank are not all ones. Not a call of the device: its callers show that they lie in the
 // bank.
 fn used_quads(bank: &[u32], first: usize, count: usize) -> usize
     requires { 4 * (first + count) ≤ length bank.now }
     ensures { result ≡ used_quads_of bank.now first count }
 {
-    let mut quads = 0;
-    let mut i = 0;
-    while i < count {
-        quads += used(quad_at(bank, first + i));
-        i += 1;
-    }
-    quads
+    (first..first + count)
+        .filter(|&i| !is_blank(quad_at(bank, i)))
+        .count()
 }
 
 // The swap bit of a kind of pages.
@@ -55,30 +41,24 @@ fn swap(d: Device, program: bool) -> bool
     ensures { result ≡ swap_of d program }
 {
     if program {
-        return has(d.nvmcon.0, Nvmcon::PFSWAP);
+        has(d.nvmcon.0, Nvmcon::PFSWAP)
+    } else {
+        has(d.nvmcon.0, Nvmcon::BFSWAP)
     }
-    has(d.nvmcon.0, Nvmcon::BFSWAP)
 }
 
 // Whether a bank's pages of a kind are on the upper side.
 fn is_upper(d: Device, second: bool, program: bool) -> bool
     ensures { result ≡ upper_of d second program }
 {
-    let swapped = swap(d, program);
-    if second {
-        return !swapped;
-    }
-    swapped
+    swap(d, program) != second
 }
 
 // How many pages of a kind a bank has.
 pub fn kind_pages(g: Geometry, program: bool) -> u32
     ensures { result ≡ kind_pages_of g program }
 {
-    if program {
-        return g.p;
-    }
-    g.b
+    if program { g.p } else { g.b }
 }
 
 // The number of a page in its bank: the boot pages come first.
@@ -87,10 +67,7 @@ fn page_index(g: Geometry, program: bool, page: u32) -> u32
     requires page_bound { page < kind_pages_of g program }
     ensures { result ≡ page_index_of g program page }
 {
-    if program {
-        return g.b + page;
-    }
-    page
+    if program { g.b + page } else { page }
 }
 
 // What the sheet says of a page of a bank.

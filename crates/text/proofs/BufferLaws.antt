@@ -1,13 +1,14 @@
 -- Bytes written one after another into a buffer, and how many of them have room.
 -- Assumes nothing.
-use mathlib.Core.Path.{◌≡◌, refl, ap}
+use mathlib.Core.Path.{◌≡◌, refl, sym, ap, ◌∙◌}
 use mathlib.Core.List.{List, [], ◌∷◌, ◌++◌}
-use Prim.Native.Nat.{ℕ, suc, ◌+◌, ◌-◌, ◌≤◌, ◌<◌, min}
+use Prim.Native.Nat.{ℕ, suc, ◌+◌, ◌-◌, ◌≤◌, min}
 use native.Mathlib.Decide.{dec_le}
-use native.Mathlib.Numerals.{add-one}
 use native.Mathlib.Omega.{arith}
-use lib.ListN.{length, get_or, set, take, drop, drop_of_length-le}
-use lib.Seq.{sets, set_comm, set_out, drop-cons, take_all, take-append_seam}
+use lib.ListN.{length, set, take, drop, take-append-drop, drop_of_length-le}
+use lib.Seq.{sets, set_comm, set_out, take_all, take-append_seam, length-take-le, length-sets}
+use borrow.Rule.Slice.PartMut.{put_mid}
+use Rattle.words.proofs.PartLaws.{put_part}
 use Rattle.text.specs.Buffer.{put_first}
 
 -- two runs of bytes are one
@@ -51,19 +52,32 @@ front_whole output buffer room = rw (take_all (length buffer) output room) (take
 pub sets_whole : (xs bs : List ℕ) (n : ℕ) → n ≡ length bs → length bs ≤ length xs → take n (sets xs 0 bs) ≡ bs
 sets_whole xs bs n e room = rw (e, sets_front xs bs) (front_whole bs xs room)
 
--- ---- a run of bytes under way
-
--- its next byte, and then the others
-pub put_next : (out bytes : List ℕ) (at i : ℕ) → i < length bytes
-    → sets (set out (at + i) (get_or bytes i 0)) (at + (i + 1)) (drop (i + 1) bytes) ≡ sets out (at + i) (drop i bytes)
-put_next out bytes at i l =
-    let e : at + suc i ≡ suc (at + i) = omega arith in
-    rw (drop-cons bytes i 0 l, add-one i, e)
+-- ---- a write to a part of the buffer
 
 -- what has no room is not written
-pub put_ends : (out bytes : List ℕ) (at count : ℕ) → count ≡ min (length bytes) (length out - at) → sets out (at + count) (drop count bytes) ≡ out
+put_ends : (out bytes : List ℕ) (at count : ℕ) → count ≡ min (length bytes) (length out - at) → sets out (at + count) (drop count bytes) ≡ out
 put_ends out bytes at count e = go (dec_le (length bytes) count)
   where
     go : Dec (length bytes ≤ count) → sets out (at + count) (drop count bytes) ≡ out
     go (yes l) = rw (drop_of_length-le bytes l)
     go (no l) = sets_out out (at + count) (drop count bytes) (omega arith)
+
+-- so that the bytes that have room, in the part that they fill, are all that is written
+pub put-front : (out bytes : List ℕ) (at from count : ℕ) → from ≡ min at (length out) → count ≡ min (length bytes) (length out - from)
+    → put_mid from (from + count - from) out (take count bytes) ≡ sets out at bytes
+put-front out bytes at from count e n =
+    put_part out first from (from + count - from) (omega (arith, long)) (omega arith) ∙ go (dec_le (length out) at)
+  where
+    first : List ℕ
+    first = take count bytes
+
+    long : length first ≡ count
+    long = length-take-le count bytes (omega arith)
+
+    go : Dec (length out ≤ at) → sets out from first ≡ sets out at bytes
+    go (yes past) = sets_out out from first (omega arith) ∙ sym (sets_out out at bytes past)
+    go (no l) =
+        let same : from ≡ at = omega arith in
+        let ends = put_ends (sets out at first) bytes at count (rw length-sets (omega arith)) in
+        let parts = sets_after out at (at + count) first (drop count bytes) (omega (arith, long)) in
+        rw same (sym ends ∙ sym parts ∙ ap (sets out at) (take-append-drop count bytes))

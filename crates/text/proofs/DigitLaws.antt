@@ -3,7 +3,7 @@
 use mathlib.Core.Path.{◌≡◌, refl}
 use mathlib.Core.List.{List, [], ◌∷◌}
 use mathlib.Core.Logic.{◌⊎◌, inl, inr}
-use Prim.Native.Nat.{ℕ, zero, suc, ◌+◌, ◌-◌, ◌/◌, ◌%◌, ◌^◌, ◌≤◌, ◌<◌}
+use Prim.Native.Nat.{ℕ, zero, suc, ◌+◌, ◌-◌, ◌*◌, ◌/◌, ◌%◌, ◌^◌, ◌≤◌, ◌<◌, max}
 use native.Mathlib.Nat.{mod-lt, div-one, div-div-eq-div-mul, pow-zero, pow-succ', pow-le-pow_right}
 use native.Mathlib.Decide.{dec_le}
 use native.Mathlib.Omega.{arith}
@@ -134,3 +134,8 @@ put_digit out at base rest (suc k) l =
       sets_append out at others (digit_of (rest % base) ∷ []),
       e,
     ) (sets_past out at others (at + k) (digit_of (rest % base)) (omega (arith, e)))
+
+-- the digits of a number by the powers of ten on both sides of it; 0 has the one digit of 1
+pub width_between : (n k : ℕ) → 10 ^ k ≤ max n 1 → max n 1 < 10 * 10 ^ k → k + 1 ≡ width_of n
+width_between zero k low high = omega (arith, width_above 1 k (inr low), width_one 0 (omega arith), width_one 1 (omega arith))
+width_between (suc n) k low high = omega (arith, width_above (suc n) k (inr (omega arith)), width_at_most k (suc n) (omega arith))

@@ -1,11 +1,12 @@
 -- How long the lines are: a line has the digits of its number and 14 bytes.
 -- Assumes nothing.
-use mathlib.Core.Path.{◌≡◌}
+use mathlib.Core.Path.{◌≡◌, refl}
 use mathlib.Core.Bool.{Bool, true, false}
 use mathlib.Core.List.{List, [], ◌∷◌, ◌++◌}
 use Prim.Native.Nat.{ℕ, zero, suc, ◌+◌, ◌*◌, ◌^◌, ◌≤◌, ◌<◌}
 use native.Mathlib.Nat.{mul-suc}
 use native.Mathlib.Omega.{arith}
+use mir.Val.{bool_byte}
 use lib.ListN.{length, set, length-append}
 use lib.Seq.{sets}
 use Rattle.text.specs.Buffer.{saturated_of}
@@ -24,6 +25,11 @@ put-column out at base n k end = rw (sets_append out at (digits_of base n k) (en
 pub flag_digit : (event : Bool) → flag_of event < 10
 flag_digit true = omega arith
 flag_digit false = omega arith
+
+-- a test as a number is its flag
+pub flag_byte : (t : Bool) → bool_byte t ≡ flag_of t
+flag_byte true = refl
+flag_byte false = refl
 
 -- a line has the digits of its number and 14 bytes
 pub line_length : (i answer con : ℕ) (event : Bool) → answer < 10 → length (line_of i answer con event) ≡ width_of i + 14

@@ -11,22 +11,17 @@ fn digit(value: usize) -> u8
     ensures { result ≡ digit_of value }
 {
     if value < 10 {
-        return 48 + value as u8;
+        b'0' + value as u8
+    } else {
+        b'A' + (value - 10) as u8
     }
-    55 + value as u8
 }
 
 // How many decimal digits a number has.
 pub fn width(number: usize) -> usize
     ensures { result ≡ width_of number }
 {
-    let mut count = 1;
-    let mut rest = number;
-    while 10 <= rest {
-        rest /= 10;
-        count += 1;
-    }
-    count
+    number.max(1).ilog10() as usize + 1
 }
 
 // Writes the last digits of a number at a position.
@@ -35,11 +30,9 @@ pub fn put_digits(out: &mut [u8], at: usize, number: usize, base: usize, count: 
     requires count_in_bounds { at + count ≤ length out.old }
     ensures { out.new ≡ sets out.old at (digits_of base number count) }
 {
-    let mut left = count;
     let mut rest = number;
-    while 0 < left {
-        left -= 1;
-        out[at + left] = digit(rest % base);
+    for place in (0..count).rev() {
+        out[at + place] = digit(rest % base);
         rest /= base;
     }
 }

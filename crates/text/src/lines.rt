@@ -4,14 +4,23 @@ ghost use Rattle.std.specs.Prelude.{◌≡◌, ◌+◌, ◌≤◌, ◌<◌, leng
 ghost use Rattle.std.proofs.lemmas.List.Edits.{sets};
 ghost use Rattle.text.specs.Buffer.{saturated_of};
 ghost use Rattle.text.specs.Digits.{width_of};
-ghost use Rattle.text.specs.Lines.{column_of, decimal_of, flag_of, line_of, lines_length_of};
+ghost use Rattle.text.specs.Lines.{column_of, decimal_of, line_of, lines_length_of};
 
-use crate::buffer::{put_front, saturating_add};
+use crate::buffer::put_front;
 use crate::digits::{put_digits, width};
 
-pub const BLANK: u8 = 32;
+pub const BLANK: u8 = b' ';
 
-pub const LINE_FEED: u8 = 10;
+pub const LINE_FEED: u8 = b'\n';
+
+// What the line of a record says.
+#[derive(Clone, Copy)]
+pub struct Line {
+    pub number: usize,
+    pub answer: u32,
+    pub con: u32,
+    pub event: bool,
+}
 
 // The bytes of a line but for the digits of its number, and the most of a line: a number of 64 bits has 20 digits.
 const BESIDE_NUMBER: usize = 14;
@@ -37,47 +46,38 @@ pub fn put_decimal(out: &mut [u8], at: usize, number: usize, end: u8) -> usize
     put_column(out, at, number, 10, width(number), end)
 }
 
-fn flag(event: bool) -> usize
-    ensures { result ≡ flag_of event }
-{
-    if event {
-        return 1;
-    }
-    0
-}
-
 // Writes the line of a record at a position; gives the position after it.
-pub fn put_line(out: &mut [u8], at: usize, i: usize, answer: u32, con: u32, event: bool) -> usize
-    requires answer_bound { answer < 10 }
-    requires i_in_bounds { at + width_of i + 14 ≤ length out.old }
-    ensures { (out.new ≡ sets out.old at (line_of i answer con event)) × (result ≡ at + width_of i + 14) }
+pub fn put_line(out: &mut [u8], at: usize, line: Line) -> usize
+    requires answer_bound { line.answer < 10 }
+    requires number_in_bounds { at + width_of line.number + 14 ≤ length out.old }
+    ensures { (out.new ≡ sets out.old at (line_of line.number line.answer line.con line.event))
+        × (result ≡ at + width_of line.number + 14) }
 {
-    let second = put_decimal(out, at, i, BLANK);
-    let third = put_decimal(out, second, answer as usize, BLANK);
-    let fourth = put_column(out, third, con as usize, 16, 8, BLANK);
-    put_decimal(out, fourth, flag(event), LINE_FEED)
+    let second = put_decimal(out, at, line.number, BLANK);
+    let third = put_decimal(out, second, line.answer as usize, BLANK);
+    let fourth = put_column(out, third, line.con as usize, 16, 8, BLANK);
+    put_decimal(out, fourth, usize::from(line.event), LINE_FEED)
 }
 
 // Writes the front of a record's line that has room at a position; gives the position after the whole line.
-pub fn write_line(out: &mut [u8], at: usize, i: usize, answer: u32, con: u32, event: bool) -> usize
-    requires { answer < 10 }
-    ensures { (out.new ≡ sets out.old at (line_of i answer con event)) × (result ≡ saturated_of (at + (width_of i + 14))) }
+pub fn write_line(out: &mut [u8], at: usize, line: Line) -> usize
+    requires { line.answer < 10 }
+    ensures { (out.new ≡ sets out.old at (line_of line.number line.answer line.con line.event))
+        × (result ≡ saturated_of (at + (width_of line.number + 14))) }
 {
-    let mut line = [0u8; LONGEST_LINE];
-    let count = put_line(&mut line, 0, i, answer, con, event);
-    put_front(out, at, &line[..count]);
-    saturating_add(at, count)
+    let mut bytes = [0; LONGEST_LINE];
+    let count = put_line(&mut bytes, 0, line);
+    put_front(out, at, &bytes[..count]);
+    at.saturating_add(count)
 }
 
 // The bytes of so many lines.
 pub fn lines_length(lines: usize) -> usize
     ensures { result ≡ saturated_of (lines_length_of lines) }
 {
-    let mut bytes = 0;
-    let mut i = 0;
-    while i < lines {
-        bytes = saturating_add(bytes, width(i) + BESIDE_NUMBER);
-        i += 1;
+    let mut bytes = 0usize;
+    for i in 0..lines {
+        bytes = bytes.saturating_add(width(i) + BESIDE_NUMBER);
     }
     bytes
 }

@@ -9,3 +9,5 @@ pub mod DeclineLaws
 pub mod Numbers
 pub mod ListLaws
 pub mod AscendingLaws
+pub mod PartLaws
+pub mod RangeLaws

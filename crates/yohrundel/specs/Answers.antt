@@ -15,7 +15,7 @@ use Rattle.reads.specs.Read.{Reading}
 use Rattle.bank_parts.specs.Parts.{lower_bank_decline_of, lower_of, lower_bank_of, page_decline_of}
 use Rattle.script_play.specs.Play.{Playback, PlayLength}
 use Rattle.update.specs.Answers.{Started}
-use Rattle.planner.specs.declared.plan.Planned.{Planned}
+use Rattle.planner.specs.Planner.{Planned}
 use Rattle.sheet.specs.Sheet.{Given}
 use Rattle.script_write.specs.Script.{Writing}
 use Rattle.script_smallest.specs.Smallest.{Smallest}

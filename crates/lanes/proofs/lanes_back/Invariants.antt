@@ -1,16 +1,12 @@
--- Each round moves the words of a block. The invariant: the words before word i are moved. The measure is the words left.
-use Rattle.std.proofs.Common.{◌≡◌, ◌≤◌, ◌-◌, ◌*◌, length}
+-- Each round moves the words of a block. The invariant: the words of the blocks before it are moved.
+use Rattle.std.proofs.Common.{◌≡◌, ◌*◌, min, length}
 use Rattle.lanes.proofs.MoveLaws.{MovedBack}
 use Rattle.lanes.proofs.lanes_back.Given as goal
 
-abbrev pub invariant-loop-i : goal.invariant-loop-i
-invariant-loop-i l = record {
-  within : l.i ≤ l.n;
+abbrev pub invariant-loop-block : goal.invariant-loop-block
+invariant-loop-block l = record {
   whole : length l.source ≡ 4 * l.n;
   same : length l.fn.target ≡ 4 * l.n;
   kept : length l.target ≡ 4 * l.n;
-  moved : MovedBack l.n l.source l.target l.i;
+  moved : MovedBack l.n l.source l.target (min (128 * l.block) l.n);
 }
-
-abbrev pub decreases-loop-i : goal.decreases-loop-i
-decreases-loop-i l = l.n - l.i

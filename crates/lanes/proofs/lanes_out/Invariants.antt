@@ -1,16 +1,12 @@
--- Each round moves the four bytes of a word to their lanes. The invariant: the words before word i are moved. The measure is the words left.
-use Rattle.std.proofs.Common.{◌≡◌, ◌≤◌, ◌-◌, ◌*◌, length}
+-- Each round moves the four bytes of a word to their lanes. The invariant: the words before word i are moved.
+use Rattle.std.proofs.Common.{◌≡◌, ◌*◌, length}
 use Rattle.lanes.proofs.MoveLaws.{MovedOut}
 use Rattle.lanes.proofs.lanes_out.Given as goal
 
 abbrev pub invariant-loop-i : goal.invariant-loop-i
 invariant-loop-i l = record {
-  within : l.i ≤ l.n;
   whole : length l.source ≡ 4 * l.n;
   same : length l.fn.target ≡ 4 * l.n;
   kept : length l.target ≡ 4 * l.n;
   moved : MovedOut l.n l.source l.target l.i;
 }
-
-abbrev pub decreases-loop-i : goal.decreases-loop-i
-decreases-loop-i l = l.n - l.i

@@ -6,5 +6,5 @@ use Rattle.reach.proofs.compare_images.Goals as goal
 
 pub with_word-d-requires : goal.with_word-d-requires
 with_word-d-requires c =
-    let counted = ap (λ (d : Difference). d.count) c.loop-i.invariant.found in
+    let counted = ap (λ (d : Difference). d.count) c.loop-i.invariant in
     omega (arith, counted, count_most c.args.image.now c.args.other.now c.loop-i.i)

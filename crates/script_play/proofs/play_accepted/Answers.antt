@@ -12,8 +12,8 @@ pub write_line-bytes-requires : goal.write_line-bytes-requires
 write_line-bytes-requires c =
     let small = answer_digit _ _ _ _ _ c.play_record.ensures in
     elim c.match-play_record.branch [
-      | in-Ok w ↦ rw w.number-is (omega arith)
-      | in-Err w ↦ rw (w.number-is, w.number.ensures) (rw w.in-Err.is at small)
+      | in-Ok w ↦ rw w.answer-is (omega arith)
+      | in-Err w ↦ rw (w.answer-is, w.number.ensures) (rw w.in-Err.is at small)
     ]
 
 pub loop-i-preserved : goal.loop-i-preserved
@@ -21,10 +21,10 @@ loop-i-preserved c =
     let small : length c.loop-i.out < 2 ^ 64 = omega arith in
     let answer = answer_from c.loop-i.device c.play_record.result in
     let m = c.match-play_record in
-    let same : (m.device ≡ answer.device) × (m.number ≡ (number_of answer.decline, answer.event)) =
+    let same : (m.device ≡ answer.device) × (m.answer ≡ (number_of answer.decline, answer.event)) =
     elim m.branch [
-      | in-Ok w ↦ rw w.in-Ok.is (w.device-is, w.number-is)
-      | in-Err w ↦ rw w.in-Err.is (w.device-is, w.number-is ∙ ap (λ (n : ℕ). (n, false)) w.number.ensures)
+      | in-Ok w ↦ rw w.in-Ok.is (w.device-is, w.answer-is)
+      | in-Err w ↦ rw w.in-Err.is (w.device-is, w.answer-is ∙ ap (λ (n : ℕ). (n, false)) w.number.ensures)
     ] in
     let text = rw (same.1, same.0) at c.write_line-bytes.ensures.0 in
     rw (add-one c.loop-i.i, same.0)

@@ -1,5 +1,7 @@
 -- Each column fits, and starts where the one before ends.
-use Rattle.sheet_line.proofs.WidthLaws.{page_width, quads_width, bank_width, flag_byte, flag_fits}
+use Rattle.std.proofs.Common.{◌∙◌}
+use Rattle.text.proofs.LineLaws.{flag_byte}
+use Rattle.sheet_line.proofs.WidthLaws.{page_width, quads_width, bank_width, flag_width}
 use Rattle.sheet_line.proofs.PutLaws.{put-line}
 use Rattle.sheet_line.proofs.put_line.Goals as goal
 
@@ -10,7 +12,7 @@ pub put_right_column-requires-2-clause-number_bound : goal.put_right_column-requ
 put_right_column-requires-2-clause-number_bound c = page_width _ c.requires.page_bound.0
 
 pub put_right_column-requires-3-clause-number_bound : goal.put_right_column-requires-3-clause-number_bound
-put_right_column-requires-3-clause-number_bound c = flag_fits c.args.s.protected
+put_right_column-requires-3-clause-number_bound c = rw (c.from.ensures ∙ flag_byte c.args.s.protected) (flag_width c.args.s.protected)
 
 pub put_right_column-requires-4-clause-number_bound : goal.put_right_column-requires-4-clause-number_bound
 put_right_column-requires-4-clause-number_bound c = quads_width _ c.requires.page_bound.1
@@ -27,5 +29,5 @@ returns c =
       c.bank_number.ensures,
       c.kind_letter.ensures,
       c.side_letter.ensures,
-      flag_byte c.args.s.protected,
+      c.from.ensures ∙ flag_byte c.args.s.protected,
     ) (put-line c.args.out.now c.args.at c.args.s c.requires.page_bound.0)

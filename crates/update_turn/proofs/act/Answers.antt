@@ -1,5 +1,7 @@
 -- Declined by WR, which lets pass stores to registers 2 to 7, or carried out as the store or the step that it is; only a step writes.
-use Rattle.std.proofs.Common.{◌≡◌, true, sym, ap, ◌∙◌}
+use Rattle.std.proofs.Common.{◌≡◌, ◌+◌, Ok, true, false, refl, sym, ap, subst, ◌∙◌}
+use Rattle.flash.specs.Write.{Write, write_from, Fits}
+use Rattle.update.specs.Answers.{turned_from}
 use Rattle.geometry.proofs.SizeLaws.{in-range}
 use Rattle.device.specs.Record.{running}
 use Rattle.device.specs.State.{state}
@@ -10,7 +12,7 @@ use Rattle.flash.proofs.AcceptedLaws.{runs}
 use Rattle.flash.proofs.EffectLaws.{effect_fits}
 use Rattle.controller.specs.Controller.{Sound}
 use Rattle.update.specs.declared.turn.TurnChange.{TurnChange}
-use Rattle.update.specs.Turn.{act_of, performed}
+use Rattle.update.specs.Turn.{act_of, performed, effected_of}
 use Rattle.update.proofs.FormLaws.{step_carried}
 use Rattle.update_turn.proofs.act.Goals as goal
 
@@ -23,14 +25,15 @@ returns-else-not-may_store-clause-result_value c =
     let a = c.args in
     let may : may_store_of a.d c.in-Store.number ≡ true = sym c.may_store.ensures ∙ c.if-not-may_store.false in
     let formed = rw c.in-Store.is at c.requires.formed in
-    rw (
-      c.going.ensures,
-      c.no_write.ensures,
-      c.in-Store.is,
-      may,
-      store_carried a.g a.d _ _ _ c.requires.g_value c.requires.d_value formed may,
-      ← c.store_accepted.ensures,
-    )
+    rw (c.going.ensures, c.in-Store.is, may)
+    (ap
+    (λ (w : Write).
+    effected_of (state a.d a.one.now a.two.now)
+    (record {
+      turned = turned_from a.d a.place (Ok (record { done = false; device = c.store_accepted.result.device; place = a.place + 1; event = c.store_accepted.result.event }));
+      write = w;
+    })) c.no_write.ensures
+    ∙ rw (store_carried a.g a.d _ _ _ c.requires.g_value c.requires.d_value formed may, ← c.store_accepted.ensures) refl)
 
 -- an operation runs
 pub step_effect-e-requires-clause-runs : goal.step_effect-e-requires-clause-runs
@@ -56,5 +59,6 @@ pub returns-else-not-has-clause-fits : goal.returns-else-not-has-clause-fits
 returns-else-not-has-clause-fits c =
     let a = c.args in
     let on : running a.d ≡ true = sym c.has.ensures ∙ c.if-not-has.false in
-    rw (ap (λ (e : TurnChange). e.write) c.going-in-Step.ensures, ap (λ (e : StepEffect). e.write) c.step_effect-e.ensures)
+    subst (λ (w : Write). Fits a.one.now a.two.now w)
+    (sym (ap (λ (r : TurnChange). write_from r.write) c.going-in-Step.ensures ∙ ap (λ (e : StepEffect). e.write) c.step_effect-e.ensures))
     (effect_fits a.g (state a.d a.one.now a.two.now) a.sram.now (runs a.g a.d (in-range a.g c.requires.g_value) c.requires.d_value on) c.requires.one_len)

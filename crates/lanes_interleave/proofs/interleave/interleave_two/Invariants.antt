@@ -1,11 +1,7 @@
--- Each round writes one element of each list. The invariant: the elements before element i are written. The measure is the elements left.
-use Rattle.std.proofs.Common.{◌≡◌, ◌≤◌, ◌-◌, [], ◌∷◌, length}
+-- Each round writes one element of each list. The invariant: the elements before element i are written.
+use Rattle.std.proofs.Common.{◌≡◌, [], ◌∷◌, length}
 use Rattle.lanes_interleave.specs.Interleave.{Interleaved}
 use Rattle.lanes_interleave.proofs.interleave.interleave_two.Given as goal
 
 abbrev pub invariant-loop-i : goal.invariant-loop-i
-invariant-loop-i l =
-    (l.i ≤ l.n) × (length l.target ≡ length l.fn.target) × Interleaved (l.first ∷ l.second ∷ []) l.target l.i
-
-abbrev pub decreases-loop-i : goal.decreases-loop-i
-decreases-loop-i l = l.n - l.i
+invariant-loop-i l = (length l.target ≡ length l.fn.target) × Interleaved (l.first ∷ l.second ∷ []) l.target l.i

@@ -1,11 +1,6 @@
--- At the end what is left has no room, so that the bytes of the invariant are what stands there.
-use Rattle.std.proofs.Common.{◌≡◌, ◌∙◌, sym, arith}
-use Rattle.text.proofs.BufferLaws.{put_ends}
+-- What has room goes to the part of the buffer that it fits.
+use Rattle.text.proofs.BufferLaws.{put-front}
 use Rattle.text.proofs.buffer.put_front.Goals as goal
 
 pub returns : goal.returns
-returns c =
-    let (within, same, written) = c.loop-i.invariant in
-    let all : c.loop-i.i ≡ c.room-count.result = omega (arith, c.loop-i-test.false) in
-    let ends = put_ends c.loop-i.out c.args.bytes.now c.args.at c.loop-i.i (omega (arith, all, same, c.room-count.ensures)) in
-    sym ends ∙ written
+returns c = rw c.copy_from_slice.ensures.after (put-front c.args.out.now c.args.bytes.now c.args.at _ _ c.min-from.ensures c.min-count.ensures)

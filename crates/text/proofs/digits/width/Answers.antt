@@ -1,10 +1,9 @@
--- From ten on a number has a digit more than its tenth, and below ten it has one.
-use Rattle.std.proofs.Common.{arith}
-use Rattle.text.proofs.DigitLaws.{width_one, width_more}
+-- The powers of ten on both sides of a number give its digits.
+use Rattle.text.proofs.DigitLaws.{width_between}
 use Rattle.text.proofs.digits.width.Goals as goal
 
-pub loop-rest-preserved : goal.loop-rest-preserved
-loop-rest-preserved c = (omega (arith, width_more c.loop-rest.rest c.loop-rest-test.true, c.loop-rest.invariant.0), omega arith)
-
 pub returns : goal.returns
-returns c = omega (arith, width_one c.loop-rest.rest c.loop-rest-test.false, c.loop-rest.invariant.0)
+returns c =
+    let low = rw c.max.ensures at c.ilog10.ensures.power_le in
+    let high = rw c.max.ensures at c.ilog10.ensures.next_power_gt in
+    width_between c.args.number c.ilog10.result low high

@@ -1,11 +1,8 @@
--- The invariant: the bytes of the lines so far. The measure is the lines that are left.
-use Rattle.std.proofs.Common.{◌-◌, ◌≡◌, ◌≤◌}
+-- The invariant: the bytes of the lines so far.
+use Rattle.std.proofs.Common.{◌≡◌}
 use Rattle.text.specs.Buffer.{saturated_of}
 use Rattle.text.specs.Lines.{lines_length_of}
 use Rattle.text.proofs.lines.lines_length.Given as goal
 
 abbrev pub invariant-loop-i : goal.invariant-loop-i
-invariant-loop-i l = (l.i ≤ l.lines) × (l.bytes ≡ saturated_of (lines_length_of l.i))
-
-abbrev pub decreases-loop-i : goal.decreases-loop-i
-decreases-loop-i l = l.lines - l.i
+invariant-loop-i l = l.bytes ≡ saturated_of (lines_length_of l.i)
