@@ -1,5 +1,5 @@
 -- W-206: one call for a row of signs. Assumes nothing.
-use Rattle.std.specs.Prelude.{ℕ, Bool, true, false, List, ltb, length, unwrap_or, option_map, Ok}
+use Rattle.std.specs.Prelude.{ℕ, Bool, true, false, List, ltb, length, unwrap_or, option_map, Option, Some, None, Result, Ok, Err}
 use Rattle.words.specs.Word.{pick}
 use Rattle.words.specs.Decline.{Verdict, number_of, accepted_of}
 use Rattle.geometry.specs.declared.banks.Geometry.{Geometry}
@@ -11,6 +11,8 @@ use Rattle.row_judge.specs.Judge.{row_decline_of}
 use Rattle.row_turn.specs.SignTurn.{look_of, SignTurning, sign_turning_of}
 use Rattle.row_choice.specs.Choice.{count_of, Known, served_of, waiters_of}
 use Rattle.row_schedule.specs.declared.answer.ScheduleAnswer.{ScheduleAnswer}
+use Rattle.words.specs.declared.decline.Decline.{Decline}
+use Rattle.row_schedule.specs.declared.answer.ServedSign.{ServedSign}
 use Rattle.row_schedule.specs.declared.answer.Scheduled.{Scheduled}
 use Rattle.row_schedule.specs.Round.{Choice}
 
@@ -41,10 +43,6 @@ pub record Scheduling : Type 0 where
 abbrev pub scheduling : ℕ → Sign → List ℕ → ScheduleAnswer → Scheduling
 scheduling number sign store answer = record { number = number; sign = sign; store = store; answer = answer }
 
--- in contracts: what a call for n records puts back, the store after it and its answer
-abbrev pub scheduling_from : ℕ → Scheduled → List ℕ → Scheduling
-scheduling_from n s store = scheduling (unwrap_or (option_map (λ kept. kept.0) s.kept) n) (unwrap_or (option_map (λ kept. kept.1) s.kept) no_sign) store s.answer
-
 -- beside a decline queue and last served are as handed over; it is not idle, the number served is 0, and there is no event (ours)
 abbrev pub declined : Verdict → Queue → ℕ → ScheduleAnswer
 declined decline queue last = record { decline = number_of decline; idle = false; served = 0; event = false; queue = queue; last = last }
@@ -56,6 +54,27 @@ idle queue last = record { decline = number_of (Ok tt); idle = true; served = 0;
 -- a sign was served, with the event of its turn
 abbrev pub served : ℕ → Bool → Queue → ScheduleAnswer
 served number event queue = record { decline = number_of (Ok tt); idle = false; served = number; event = event; queue = queue; last = number }
+
+-- in contracts: what a call answers, by whom it serves
+abbrev pub served_from : Queue → ℕ → Option ServedSign → ScheduleAnswer
+served_from queue last None = idle queue last
+served_from queue last (Some s) = served s.number s.event queue
+
+-- by what it leaves or why it is declined
+abbrev pub answer_from : Queue → ℕ → Result Scheduled Decline → ScheduleAnswer
+answer_from queue last (Ok s) = served_from s.queue last s.served
+answer_from queue last (Err e) = declined (Err e) queue last
+
+-- whom it serves
+abbrev pub whom_from : Result Scheduled Decline → Option ServedSign
+whom_from (Ok s) = s.served
+whom_from (Err e) = None
+
+-- all of a call for n records, with the store after it
+abbrev pub scheduling_from : ℕ → Queue → ℕ → Result Scheduled Decline → List ℕ → Scheduling
+scheduling_from n queue last outcome store =
+    scheduling (unwrap_or (option_map (λ s. s.number) (whom_from outcome)) n) (unwrap_or (option_map (λ s. s.sign) (whom_from outcome)) no_sign) store
+    (answer_from queue last outcome)
 
 -- "A call does one turn for one sign."
 abbrev pub served_sign : ℕ → SignTurning → Queue → Scheduling

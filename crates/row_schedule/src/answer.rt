@@ -1,10 +1,35 @@
-// What a call answers, and the one record that it puts back.
-ghost use Rattle.std.specs.Prelude.{◌≡◌, None, Err};
-ghost use Rattle.row_schedule.specs.Schedule.{declined, idle};
+// What a call leaves, and what it answers.
+ghost use Rattle.std.specs.Prelude.{◌≡◌};
+ghost use Rattle.row_schedule.specs.Schedule.{whom_from, answer_from};
 
 use row_signs::queue::Queue;
 use row_signs::sign::Sign;
 use words::decline::Decline;
+
+// The record that a call serves: its number, the record after its turn, and the turn's event.
+#[derive(Clone, Copy)]
+pub struct ServedSign {
+    pub number: u32,
+    pub sign: Sign,
+    pub event: bool,
+}
+
+// Whom a call serves, and who waits then.
+#[derive(Clone, Copy)]
+pub struct Scheduled {
+    pub served: Option<ServedSign>,
+    pub queue: Queue,
+}
+
+// The record that a call serves, by what it leaves or why it is declined.
+pub fn whom(outcome: &Result<Scheduled, Decline>) -> Option<ServedSign>
+    ensures { result ≡ whom_from outcome.now }
+{
+    match outcome {
+        Ok(scheduled) => scheduled.served,
+        Err(_) => None,
+    }
+}
 
 // What a call answers: beside a decline queue and last served are as handed over.
 #[repr(C)]
@@ -18,43 +43,41 @@ pub struct ScheduleAnswer {
     pub last: u32,
 }
 
-// The one record that a call puts back, with its number; and the answer.
-#[derive(Clone, Copy)]
-pub struct Scheduled {
-    pub kept: Option<(usize, Sign)>,
-    pub answer: ScheduleAnswer,
-}
-
-// A declined call, which puts none back.
-pub fn declined(decline: Decline, queue: Queue, last: u32) -> Scheduled
-    ensures { result ≡ record { kept = None; answer = declined (Err decline) queue last } }
-{
-    Scheduled {
-        kept: None,
-        answer: ScheduleAnswer {
-            decline: decline.number(),
+impl ScheduleAnswer {
+    // Of a call with this queue and this record last served, by what it leaves or why it is declined.
+    pub fn of(outcome: &Result<Scheduled, Decline>, queue: Queue, last: u32) -> Self
+        ensures { result ≡ answer_from queue last outcome.now }
+    {
+        let none = ScheduleAnswer {
+            decline: 0,
             idle: false,
             served: 0,
             event: false,
             queue,
             last,
-        },
-    }
-}
-
-// A call that serves nobody, and puts none back.
-pub fn idle(queue: Queue, last: u32) -> Scheduled
-    ensures { result ≡ record { kept = None; answer = idle queue last } }
-{
-    Scheduled {
-        kept: None,
-        answer: ScheduleAnswer {
-            decline: 0,
-            idle: true,
-            served: 0,
-            event: false,
-            queue,
-            last,
-        },
+        };
+        let scheduled = match outcome {
+            Ok(scheduled) => scheduled,
+            Err(decline) => {
+                return ScheduleAnswer {
+                    decline: decline.number(),
+                    ..none
+                };
+            }
+        };
+        match scheduled.served {
+            Some(s) => ScheduleAnswer {
+                served: s.number,
+                event: s.event,
+                queue: scheduled.queue,
+                last: s.number,
+                ..none
+            },
+            None => ScheduleAnswer {
+                idle: true,
+                queue: scheduled.queue,
+                ..none
+            },
+        }
     }
 }

@@ -7,17 +7,18 @@ mod choice;
 mod judged;
 mod round;
 
-ghost use Rattle.std.specs.Prelude.{◌≡◌, ◌<◌, IfSome};
+ghost use Rattle.std.specs.Prelude.{◌≡◌, ◌<◌, IfSome, Ok};
 ghost use Rattle.row_schedule.specs.Round.{RowSound, choice_from};
 ghost use Rattle.row_schedule.specs.Schedule.{serving_of, scheduling_from, schedule_row_of};
 
-use crate::answer::{ScheduleAnswer, Scheduled, declined, idle};
+use crate::answer::{Scheduled, ServedSign};
 use crate::choice::Choice;
 use crate::judged::Judged;
 use geometry::banks::Geometry;
 use row_judge::row_decline;
 use row_signs::row::Row;
 use row_turn::{Shared, serve};
+use words::decline::Decline;
 
 // The turn of the record that is served, or nothing where nobody is.
 #[tactic(auto, unfolding(crate::specs::Schedule::serving_of))]
@@ -31,23 +32,23 @@ fn serve_choice(
 ) -> Scheduled
     requires row_sound { RowSound g store.old row.now.signs row.now.count }
     requires listed { IfSome choice.served (λ j. j < row.now.count) }
-    ensures { scheduling_from row.now.count result store.new
+    ensures { scheduling_from row.now.count row.now.queue row.now.last (Ok result) store.new
         ≡ serving_of g row.now.signs row.now.count (choice_from row.now.count choice) row.now.last store.old image.now sram.now }
 {
     let Some(number) = choice.served else {
-        return idle(choice.queue, row.last);
+        return Scheduled {
+            served: None,
+            queue: choice.queue,
+        };
     };
     let t = serve(g, row.signs[number], store, image, sram);
     Scheduled {
-        kept: Some((number, t.sign)),
-        answer: ScheduleAnswer {
-            decline: 0,
-            idle: false,
-            served: number as u32,
+        served: Some(ServedSign {
+            number: number as u32,
+            sign: t.sign,
             event: t.event,
-            queue: choice.queue,
-            last: number as u32,
-        },
+        }),
+        queue: choice.queue,
     }
 }
 
@@ -60,13 +61,11 @@ pub fn schedule_row<'a>(
     store: &mut [u32],
     image: &'a [u32],
     sram: &'a [u32],
-) -> Scheduled
-    ensures { scheduling_from row.now.count result store.new
+) -> Result<Scheduled, Decline>
+    ensures { scheduling_from row.now.count row.now.queue row.now.last result store.new
         ≡ schedule_row_of g k row.now.signs row.now.count row.now.queue row.now.last store.old image.now sram.now }
 {
-    if let Err(decline) = row_decline(g, k, row, store.len(), image.len(), sram.len()) {
-        return declined(decline, row.queue, row.last);
-    }
+    row_decline(g, k, row, store.len(), image.len(), sram.len())?;
     let judged = Judged {
         k,
         row,
@@ -78,5 +77,5 @@ pub fn schedule_row<'a>(
         },
     };
     let choice = judged.choose();
-    serve_choice(g, row, choice, store, image, sram)
+    Ok(serve_choice(g, row, choice, store, image, sram))
 }

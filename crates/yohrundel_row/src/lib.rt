@@ -6,7 +6,7 @@ ghost use Rattle.yohrundel_row.specs.Schedule.{rowed, schedule_of};
 
 use geometry::banks::Geometry;
 use row_list::{few, gather, keep_sign};
-use row_schedule::answer::ScheduleAnswer;
+use row_schedule::answer::{ScheduleAnswer, whom};
 use row_schedule::schedule_row;
 use row_signs::queue::Queue;
 use row_signs::row::Row;
@@ -34,9 +34,9 @@ pub extern "C" fn yohrundel_schedule(
         queue,
         last,
     };
-    let t = schedule_row(g, k, &row, store, image, sram);
-    if let Some((number, sign)) = t.kept {
-        keep_sign(signs, number, sign);
+    let outcome = schedule_row(g, k, &row, store, image, sram);
+    if let Some(s) = whom(&outcome) {
+        keep_sign(signs, s.number as usize, s.sign);
     }
-    t.answer
+    ScheduleAnswer::of(&outcome, queue, last)
 }

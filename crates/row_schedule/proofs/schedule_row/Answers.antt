@@ -8,5 +8,5 @@ pub serve_choice-requires-clause-row_sound : goal.serve_choice-requires-clause-r
 serve_choice-requires-clause-row_sound c =
     let a = c.args in
     let row = a.row.now in
-    let accepted = ap accepted_of (sym c.row_decline-decline.ensures) ∙ sym c.is_accepted.ensures ∙ c.if-not-is_accepted.false in
+    let accepted = ap accepted_of (sym c.row_decline.ensures ∙ c.in_ok-row_decline.was) in
     row-sound a.g a.k row.signs row.count row.queue row.last a.store.now a.image.now a.sram.now accepted
