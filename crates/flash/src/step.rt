@@ -47,7 +47,7 @@ fn ended(d: Device, con: u32) -> Device
 }
 
 // What a step leaves that aborts or not.
-#[tactic(auto, unfolding(crate::specs::Step::advance_of))]
+#[tactic(auto, using(crate::proofs::EffectLaws::steps_high), unfolding(crate::specs::Step::advance_of))]
 fn advance(g: Geometry, d: Device, aborts: bool) -> Outcome
     requires { Runs g d }
     ensures { advanced result.device result.event ≡ advance_of g d aborts }
