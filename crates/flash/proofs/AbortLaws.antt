@@ -17,15 +17,13 @@ use Rattle.words.proofs.QuadLaws.{quad_word, blank_word, other_word}
 use Rattle.geometry.specs.declared.banks.Geometry.{Geometry}
 use Rattle.geometry.specs.Banks.{page_bytes_of}
 use Rattle.geometry.proofs.SizeLaws.{page_pos}
-use Rattle.map.specs.Windows.{Location}
-use Rattle.map.specs.Windows.{located, locate_of, page_of, quad_index_of, in_second_of}
+use Rattle.map.specs.Windows.{Location, located, locate_of, page_of, quad_index_of, in_second_of}
 use Rattle.map.proofs.WindowLaws.{window_found, page_below}
 use Rattle.device.specs.declared.record.Device.{Device}
 use Rattle.device.specs.Record.{bfswap, pfswap, op_of}
 use Rattle.device.specs.State.{State, bank_of}
 use Rattle.protection.specs.Protection.{pwp_of}
-use Rattle.flash.specs.Effect.{Effect}
-use Rattle.flash.specs.Effect.{Runs, step_location_of, blocked_of, source_word_of, source_fits_of, effect, effect_at_of, effect_of}
+use Rattle.flash.specs.Effect.{Effect, Runs, step_location_of, blocked_of, source_word_of, source_fits_of, effect, effect_at_of, effect_of}
 use Rattle.flash.specs.StepSentences.{nvmop, step_address, Blocked, SourceFits, Blank, Aborts}
 use Rattle.flash.specs.StepSentences.Blocked.{lower, upper}
 use Rattle.flash.specs.StepSentences.Aborts.{not_blank, no_source}

@@ -13,19 +13,17 @@ use Rattle.words.specs.Quad.{quad_at, is_blank_of}
 use Rattle.words.proofs.PickLaws.{pick_both, and_both}
 use Rattle.words.proofs.BitLaws.{true_not_false}
 use Rattle.geometry.specs.declared.banks.Geometry.{Geometry}
-use Rattle.map.specs.Windows.{Location}
 use Rattle.geometry.specs.Banks.{InRange, bank_words_of}
-use Rattle.map.specs.Windows.{window_bytes_of, located, quad_index_of, in_second_of}
+use Rattle.map.specs.Windows.{Location, window_bytes_of, located, quad_index_of, in_second_of}
 use Rattle.geometry.proofs.SizeLaws.{Unit, quad_unit, row_unit, page_unit}
 use Rattle.map.proofs.WindowLaws.{unit_room, quad_in_bank}
 use Rattle.device.specs.declared.record.Device.{Device}
 use Rattle.device.specs.Record.{op_of, bfswap, pfswap}
 use Rattle.protection.specs.Protection.{pwp_of}
 use Rattle.nvmop.specs.Operation.{unit_of, target_of, page_protected_of, target_begins_of, begins_at_of, length_of}
-use Rattle.flash.specs.Effect.{Effect}
 use Rattle.device.specs.State.{State, bank_of}
 use Rattle.flash.specs.Write.{Fits}
-use Rattle.flash.specs.Effect.{Runs, region_steps, step_at_of, step_location_of, blocked_of, source_word_of, source_fits_of, effect_at_of, effect_of}
+use Rattle.flash.specs.Effect.{Effect, Runs, region_steps, step_at_of, step_location_of, blocked_of, source_word_of, source_fits_of, effect_at_of, effect_of}
 
 module _ (g : Geometry) (ok : InRange g) where
   -- no operation has more steps than both regions

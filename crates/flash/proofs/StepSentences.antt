@@ -32,9 +32,8 @@ use Rattle.device.proofs.ByNumber.{known_by_numbers}
 use Rattle.nvmop.specs.Operation.{length_of}
 use Rattle.common_declines.specs.CommonDecline.{common_decline_of, Usable, CommonDeclines}
 use Rattle.common_declines.proofs.DeclineLaws.{usable, used, common_first, common_fixes}
-use Rattle.flash.specs.Effect.{Effect}
 use Rattle.flash.specs.Write.{written_of}
-use Rattle.flash.specs.Effect.{Runs, step_location_of, effect_of}
+use Rattle.flash.specs.Effect.{Effect, Runs, step_location_of, effect_of}
 use Rattle.flash.specs.Step.{step_decline_of, advance_of, step_effect_of, stepped_of, step_answer_of, step_of}
 use Rattle.flash.specs.StepSentences.{nvmop, StepPlace, Blocked, source, SourceFits, Blank, Aborts, StepBanks, StepDevice, StepSentences, StepsFixed}
 use Rattle.flash.specs.StepSentences.Aborts.{not_blank, no_source}

@@ -8,8 +8,7 @@ use Rattle.words.proofs.PickLaws.{pick_both}
 use Rattle.words.proofs.QuadLaws.{put_length}
 use Rattle.device.specs.declared.record.Device.{Device}
 use Rattle.device.specs.State.{State, bank_of}
-use Rattle.flash.specs.Write.{Write}
-use Rattle.flash.specs.Write.{written_of}
+use Rattle.flash.specs.Write.{Write, written_of}
 
 pub written_length : (s : State) (d : Device) (w : Write) (second : Bool) → length (bank_of (written_of s d w) second) ≡ length (bank_of s second)
 written_length s d w true = pick_both P w.writes (pick_both P w.second (put_length s.two w.quad w.words) refl) refl

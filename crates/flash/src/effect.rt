@@ -111,7 +111,7 @@ pub fn old_quad(one: &[u32], two: &[u32], second: bool, quad: u32) -> [u32; 4]
 }
 
 // The words that the next step writes over a quad that is not in a protected boot page. Where there are none it aborts.
-#[tactic(auto, unfolding(crate::specs::Effect::effect_at_of))]
+#[tactic(auto, using(crate::proofs::EffectLaws::source_room), unfolding(crate::specs::Effect::effect_at_of))]
 fn intended(d: Device, sram: &[u32], old: [u32; 4]) -> Option<[u32; 4]>
     ensures { (second : Bool) (quad : ℕ) → effect (is_none result) (is_some result) second quad (unwrap_or result blank_quad)
         ≡ effect_at_of d sram.now second quad old }

@@ -55,7 +55,7 @@ fn ended(d: Device, con: u32) -> Device
 }
 
 // What a step leaves that aborts or not.
-#[tactic(auto, unfolding(crate::specs::Step::advance_of))]
+#[tactic(auto, using(crate::proofs::EffectLaws::steps_high), unfolding(crate::specs::Step::advance_of))]
 fn advance(layout: Layout, d: Device, aborts: bool) -> Outcome
     requires { Runs layout.geometry d }
     ensures { advanced result.device result.event ≡ advance_of layout.geometry d aborts }

@@ -43,7 +43,7 @@ pub fn launch(layout: Layout, d: Device) -> Launched
 }
 
 // What was launched stays, and there is no event.
-pub fn nothing_launched(d: Device, nvmcon: u32) -> Launched
+pub(crate) fn nothing_launched(d: Device, nvmcon: u32) -> Launched
     ensures { result ≡ launched nvmcon false d.launched }
 {
     Launched {

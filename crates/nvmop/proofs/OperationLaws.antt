@@ -9,9 +9,8 @@ use lib.Dec.{eqb}
 use Rattle.words.specs.Word.{pick}
 use Rattle.words.proofs.PickLaws.{pick_both}
 use Rattle.geometry.specs.declared.banks.Geometry.{Geometry}
-use Rattle.map.specs.Windows.{Location}
 use Rattle.geometry.specs.Banks.{InRange, round_down_of}
-use Rattle.map.specs.Windows.{window_bytes_of, page_of}
+use Rattle.map.specs.Windows.{Location, window_bytes_of, page_of}
 use Rattle.map.proofs.WindowLaws.{stands, page_below}
 use Rattle.protection.specs.Protection.{program_protected_of, page_offset_of, any_protected_of}
 use Rattle.protection.proofs.ProtectionLaws.{is-protected, protected_by}

@@ -19,9 +19,8 @@ use Rattle.words.proofs.PickLaws.{pick_same, pick_both}
 use Rattle.words.proofs.BitLaws.{equal_by_bits}
 use Rattle.words.proofs.QuadLaws.{put_torn}
 use Rattle.geometry.specs.declared.banks.Geometry.{Geometry}
-use Rattle.sequence.specs.Comparison.{Comparison}
 use Rattle.sequence.specs.Sequence.{sequence_index_of}
-use Rattle.sequence.specs.Comparison.{reason_number_of, comparison, compare_of}
+use Rattle.sequence.specs.Comparison.{Comparison, reason_number_of, comparison, compare_of}
 use Rattle.sequence.specs.Reasons.{Reasons}
 use Rattle.sequence.proofs.ComparisonLaws.{comparisons, one_reason}
 use Rattle.device.specs.declared.record.Device.{Device}
@@ -31,8 +30,7 @@ use Rattle.device.specs.State.{State, state, bank_of, after}
 use Rattle.common_declines.specs.CommonDecline.{common_decline_of, Usable, CommonDeclines}
 use Rattle.common_declines.proofs.CommonDeclineLaws.{Ready, opens}
 use Rattle.common_declines.proofs.DeclineLaws.{usable, used, common_first, common_fixes}
-use Rattle.flash.specs.Write.{Write}
-use Rattle.flash.specs.Write.{written_of}
+use Rattle.flash.specs.Write.{Write, written_of}
 use Rattle.flash.specs.Effect.{effect_of}
 use Rattle.flash.specs.Step.{step_decline_of, step_of}
 use Rattle.flash.proofs.EffectLaws.{effect_fits}

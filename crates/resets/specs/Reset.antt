@@ -14,8 +14,7 @@ use Rattle.device.specs.Builders.{power_on, with_con}
 use Rattle.device.specs.State.{State, state, bank_of, After, after}
 use Rattle.device.specs.Record.{running, no_operands}
 use Rattle.common_declines.specs.CommonDecline.{common_decline_of}
-use Rattle.flash.specs.Write.{Write}
-use Rattle.flash.specs.Write.{written_of}
+use Rattle.flash.specs.Write.{Write, written_of}
 use Rattle.flash.specs.Effect.{effect_of}
 use Rattle.resets.specs.declared.AfterReset.{AfterReset}
 use Rattle.device.specs.Numbers.{NVMCON, NVMPWP, NVMBWP, NVMCON2}

@@ -9,11 +9,9 @@ use lib.Dec.{eqb, ltb}
 use borrow.Author.Tests.{eqb-true, eq-eqb, le-ltb}
 use Rattle.words.specs.Word.{pick}
 use Rattle.words.proofs.BitLaws.{true_not_false}
-use Rattle.sequence.specs.Comparison.{Reason}
 use Rattle.sequence.specs.Comparison.Reason.{Higher, Equal, OnlyOneValid, NoneValid, NotCompared}
-use Rattle.sequence.specs.Comparison.{Comparison}
 use Rattle.sequence.specs.Sequence.{tseq_of, valid_of}
-use Rattle.sequence.specs.Comparison.{reason_number_of, comparison, compare_of, bfswap_of}
+use Rattle.sequence.specs.Comparison.{Reason, Comparison, reason_number_of, comparison, compare_of, bfswap_of}
 use Rattle.sequence.specs.Reasons.{ChosenBefore, Reasons, Comparisons}
 
 -- ---- the comparison by three tests: the words' validity, and whether their T is equal

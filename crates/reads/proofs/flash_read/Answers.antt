@@ -13,7 +13,6 @@ use Rattle.reads.specs.Read.{free_of}
 use Rattle.reads.proofs.AcceptedLaws.{read_ready}
 use Rattle.reads.proofs.StepsLaws.{worked_on}
 use Rattle.reads.proofs.flash_read.Goals as goal
-use Rattle.reads.proofs.flash_read.Goals.{then-is_free, else-is_free}
 
 -- the bank is worked on
 busy : (g : Geometry) (d : Device) (second t : Bool) → t ≡ free_of g d second → t ≡ false → running d ≡ true
