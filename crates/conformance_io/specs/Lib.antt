@@ -1,4 +1,1 @@
-pub mod Output
-pub mod Differences
-pub mod Changes
 pub mod Records
