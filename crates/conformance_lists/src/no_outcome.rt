@@ -1,4 +1,7 @@
 // Why a call has no outcome for a line.
+ghost use Rattle.std.specs.Prelude.{◌≡◌, true, OnOk};
+ghost use Rattle.words.specs.Decline.{accepted_of};
+
 use std::alloc::AllocError;
 use std::fmt;
 use words::decline::Decline;
@@ -26,5 +29,16 @@ impl fmt::Display for NoOutcome {
 impl From<AllocError> for NoOutcome {
     fn from(_e: AllocError) -> NoOutcome {
         NoOutcome::OutOfMemory
+    }
+}
+
+/// Goes on where a call is not declined.
+pub fn accepted(decline: Decline) -> Result<(), NoOutcome>
+    ensures { OnOk result (accepted_of decline ≡ true) }
+{
+    if decline.is_accepted() {
+        Ok(())
+    } else {
+        Err(NoOutcome::Declined(decline))
     }
 }
