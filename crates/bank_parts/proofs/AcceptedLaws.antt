@@ -1,5 +1,6 @@
 -- What an accepted page request tells: where its page lies. Assumes nothing.
 use mathlib.Core.Path.{◌≡◌, refl}
+use Rattle.std.specs.Prelude.{Ok, Err}
 use mathlib.Core.Bool.{true}
 use mathlib.Core.List.{[], ◌∷◌}
 use Prim.Native.Nat.{ℕ, ◌+◌, ◌*◌, ◌≤◌}
@@ -21,7 +22,7 @@ pub page_lies : (g : Geometry) (words page : ℕ) → accepted_of (page_decline_
 unfolding page_decline_of
 page_lies g words page h =
     let s0 = neither (lent_decline_of g (words ∷ []) 0) _ h in
-    let s1 = held (ltb page (pages_of g)) Decline.Accepted Decline.Address refl s0.1 in
+    let s1 = held (ltb page (pages_of g)) (Ok tt) (Err Decline.Address) refl s0.1 in
     let f = fits g (words ∷ []) 0 s0.0 in
     let length-is : words ≡ bank_words_of g = f.banks.0 in
     (f.range, rw length-is (page_in_bank_lem g f.range page (ltb-true _ _ s1.0)))

@@ -1,5 +1,6 @@
 -- The lower bank is one of the two, and a page is known by its words. Assumes nothing.
 use Prim.Native.Nat.{ℕ, ◌+◌, ◌*◌, ◌≤◌, ◌<◌}
+use Rattle.std.specs.Prelude.{Ok, Err}
 use mathlib.Core.Path.{◌≡◌, refl, sym, ap, ◌∙◌}
 use mathlib.Core.Bool.{Bool, true, false}
 use mathlib.Core.List.{List, [], ◌∷◌}
@@ -11,7 +12,7 @@ use lib.Seq.{ext_get_or, get_or-take, get_or-drop, length-take-le}
 use borrow.Author.Tests.{eqb-true, eq-eqb, ne_eqb, lt-ltb, le-ltb}
 use Rattle.words.specs.Word.{pick, bit}
 use Rattle.words.specs.declared.decline.Decline.{Decline}
-use Rattle.words.specs.Decline.{number_of, accepted_of, first_of}
+use Rattle.words.specs.Decline.{Verdict, number_of, accepted_of, first_of}
 use Rattle.words.proofs.BitLaws.{true_not_false, has_bit}
 use Rattle.words.proofs.DeclineLaws.{neither}
 use Rattle.words.proofs.Numbers.{numbers}
@@ -29,7 +30,7 @@ use Rattle.bank_parts.specs.PartSentences.{LowerBankSentences, PageSentences, Pa
 
 -- ---- the lower bank
 module _ (g : Geometry) (d : Device) (one two : List ℕ) where
-  abbrev judged : Decline
+  abbrev judged : Verdict
   judged = lower_bank_decline_of g d (length one) (length two)
 
   is_common : judged ≡ common_decline_of g d (length one ∷ length two ∷ []) 0
@@ -61,7 +62,7 @@ module _ (g : Geometry) (d : Device) (one two : List ℕ) where
       number_zero : Usable g d (length one ∷ length two ∷ []) 0 → number_of (common_decline_of g d (length one ∷ length two ∷ []) 0) ≡ 0
       number_zero u = eqb-true _ _ (used g d (length one ∷ length two ∷ []) 0 u)
 
-  module _ (decline : Decline) (part : List ℕ) (m : LowerBankSentences g d one two decline part) where
+  module _ (decline : Verdict) (part : List ℕ) (m : LowerBankSentences g d one two decline part) where
     same_number : number_of decline ≡ number_of judged
     same_number = go (accepted_of (common_decline_of g d (length one ∷ length two ∷ []) 0)) refl
       where
@@ -81,14 +82,14 @@ module _ (g : Geometry) (d : Device) (one two : List ℕ) where
 
 -- ---- a page
 module _ (g : Geometry) (bank : List ℕ) (page : ℕ) where
-  abbrev asked : Decline
+  abbrev asked : Verdict
   asked = page_decline_of g (length bank) page
 
-  abbrev lent : Decline
+  abbrev lent : Verdict
   lent = lent_decline_of g (length bank ∷ []) 0
 
-  abbrev numbered : Decline
-  numbered = pick (ltb page (pages_of g)) Decline.Accepted Decline.Address
+  abbrev numbered : Verdict
+  numbered = pick (ltb page (pages_of g)) (Ok tt) (Err Decline.Address)
 
   is_first : asked ≡ first_of lent numbered
   unfolding page_decline_of
@@ -168,7 +169,7 @@ module _ (g : Geometry) (bank : List ℕ) (page : ℕ) where
         words = part_word;
       }
 
-  module _ (decline : Decline) (part : List ℕ) (m : PageSentences g bank page decline part) where
+  module _ (decline : Verdict) (part : List ℕ) (m : PageSentences g bank page decline part) where
     one_number : number_of decline ≡ number_of asked
     one_number = go (accepted_of lent) refl (dec_lt page (pages_of g))
       where

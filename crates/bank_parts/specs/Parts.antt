@@ -1,18 +1,18 @@
 -- What is handed back of the lent banks: the bank on the lower alias, and a page. Assumes nothing.
-use Rattle.std.specs.Prelude.{ℕ, ◌+◌, ◌*◌, ◌≡◌, true, List, [], ◌∷◌, ltb, length}
+use Rattle.std.specs.Prelude.{ℕ, ◌+◌, ◌*◌, ◌≡◌, true, List, [], ◌∷◌, ltb, length, Ok, Err}
 use Rattle.std.specs.Borrow.{Bor}
 use Rattle.words.specs.Word.{pick}
 use Rattle.geometry.specs.declared.banks.Geometry.{Geometry}
 use Rattle.words.specs.declared.decline.Decline.{Decline}
 use Rattle.geometry.specs.Banks.{pages_of, page_words_of, page_at}
-use Rattle.words.specs.Decline.{accepted_of, first_of}
+use Rattle.words.specs.Decline.{Verdict, accepted_of, first_of}
 use Rattle.geometry.specs.Lent.{lent_decline_of}
 use Rattle.device.specs.declared.record.Device.{Device}
 use Rattle.device.specs.Record.{bfswap}
 use Rattle.common_declines.specs.CommonDecline.{common_decline_of}
 
 -- declines 1, 2 and 3, by the lengths of bank 1 and bank 2
-unfoldable pub lower_bank_decline_of : Geometry → Device → ℕ → ℕ → Decline
+unfoldable pub lower_bank_decline_of : Geometry → Device → ℕ → ℕ → Verdict
 lower_bank_decline_of g d one two = common_decline_of g d (one ∷ two ∷ []) 0
 
 -- "the bank on the lower alias": "BFSWAP = 0 puts bank 1's boot pages on the lower alias, 1 bank 2's."
@@ -31,8 +31,8 @@ unfoldable pub lower_bank_of : Geometry → Device → List ℕ → List ℕ →
 lower_bank_of g d one two = pick (accepted_of (lower_bank_decline_of g d (length one) (length two))) (lower_of d one two) []
 
 -- declines 1, 2 and 8, by the length of the bank: "its page number, 0 to N-1"
-unfoldable pub page_decline_of : Geometry → ℕ → ℕ → Decline
-page_decline_of g words page = first_of (lent_decline_of g (words ∷ []) 0) (pick (ltb page (pages_of g)) Decline.Accepted Decline.Address)
+unfoldable pub page_decline_of : Geometry → ℕ → ℕ → Verdict
+page_decline_of g words page = first_of (lent_decline_of g (words ∷ []) 0) (pick (ltb page (pages_of g)) (Ok tt) (Err Decline.Address))
 
 -- "A page is handed back as that part of the bank.": 32×Q words from word page×32×Q on; "A declined request hands back an
 -- empty part"

@@ -4,8 +4,7 @@ use mathlib.Core.Bool.{Bool, true, false}
 use mathlib.Core.List.{List}
 use Prim.Native.Nat.{ℕ}
 use Rattle.words.specs.Word.{pick}
-use Rattle.words.specs.declared.decline.Decline.{Decline}
-use Rattle.words.specs.Decline.{number_of, accepted_of, first_of}
+use Rattle.words.specs.Decline.{Verdict, number_of, accepted_of, first_of}
 use Rattle.words.proofs.BitLaws.{true_not_false}
 use Rattle.geometry.specs.declared.banks.Geometry.{Geometry}
 use Rattle.geometry.specs.Banks.{in_range_of}
@@ -55,7 +54,7 @@ module _ (g : Geometry) (d : Device) (lengths : List ℕ) (sram : ℕ) where
       }
 
   -- whatever declines come after them
-  pub common_first : (other : Decline) → CommonDeclines g d lengths sram (number_of (first_of (common_decline_of g d lengths sram) other))
+  pub common_first : (other : Verdict) → CommonDeclines g d lengths sram (number_of (first_of (common_decline_of g d lengths sram) other))
   common_first other = go (accepted_of (common_decline_of g d lengths sram)) refl
     where
       go : (t : Bool) → accepted_of (common_decline_of g d lengths sram) ≡ t

@@ -1,17 +1,17 @@
 -- Declines 1, 2 and 3, which open every call of the device. Assumes nothing.
-use Rattle.std.specs.Prelude.{ℕ, ◌≡◌, true, false, List}
+use Rattle.std.specs.Prelude.{ℕ, ◌≡◌, true, false, List, Ok, Err}
 use Rattle.words.specs.Word.{pick}
 use Rattle.geometry.specs.declared.banks.Geometry.{Geometry}
 use Rattle.words.specs.declared.decline.Decline.{Decline}
-use Rattle.words.specs.Decline.{first_of}
+use Rattle.words.specs.Decline.{Verdict, first_of}
 use Rattle.geometry.specs.Banks.{in_range_of}
 use Rattle.geometry.specs.Lent.{Fit, LentDeclines, lent_decline_of}
 use Rattle.device.specs.declared.record.Device.{Device}
 use Rattle.common_declines.specs.Possible.{possible_of}
 
 -- by the geometry, the lengths of the banks and of the SRAM that are lent, and the device
-unfoldable pub common_decline_of : Geometry → Device → List ℕ → ℕ → Decline
-common_decline_of g d lengths sram = first_of (lent_decline_of g lengths sram) (pick (possible_of g d) Decline.Accepted Decline.Device)
+unfoldable pub common_decline_of : Geometry → Device → List ℕ → ℕ → Verdict
+common_decline_of g d lengths sram = first_of (lent_decline_of g lengths sram) (pick (possible_of g d) (Ok tt) (Err Decline.Device))
 
 -- ---- the same as facts of a call and of the number of its answer (proofs/DeclineLaws)
 

@@ -11,15 +11,12 @@ use words::decline::Decline;
 
 // Which of declines 1, 2 and 3 applies; an SRAM of length 0 where none is lent.
 #[tactic(auto, unfolding(crate::specs::CommonDecline::common_decline_of))]
-pub fn common_decline(g: Geometry, d: Device, lent: Lent, sram: usize) -> Decline
+pub fn common_decline(g: Geometry, d: Device, lent: Lent, sram: usize) -> Result<(), Decline>
     ensures { result ≡ common_decline_of g d (lengths_of lent) sram }
 {
-    let decline = lent_decline(g, lent, sram);
-    if !decline.is_accepted() {
-        return decline;
-    }
+    lent_decline(g, lent, sram)?;
     if !is_possible(g, d) {
-        return Decline::Device;
+        return Err(Decline::Device);
     }
-    Decline::Accepted
+    Ok(())
 }

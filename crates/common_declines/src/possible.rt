@@ -2,6 +2,8 @@
 // What asks for InRange here is no call of the device: its callers ask in_range first.
 ghost use Rattle.std.specs.Prelude.{◌≡◌};
 ghost use Rattle.geometry.specs.Banks.{InRange};
+ghost use Rattle.words.specs.Word.{pick};
+ghost use Rattle.device.specs.Record.{running};
 ghost use Rattle.common_declines.specs.Possible.{implemented_of, launched_fits_of, nothing_launched_of, running_of, resting_of, possible_of};
 
 use device::record::{Device, register};
@@ -16,12 +18,10 @@ use words::word::has;
 fn is_implemented(d: Device) -> bool
     ensures { result ≡ implemented_of d }
 {
-    let mut number = 0;
-    while number < 11 {
+    for number in 0..11 {
         if !is_within(number, register(d, number)) {
             return false;
         }
-        number += 1;
     }
     true
 }
@@ -32,22 +32,12 @@ fn launched_fits(d: Device) -> bool
     ensures { result ≡ launched_fits_of d.launched }
 {
     let data = d.launched.nvmdata;
-    if !is_within(NVMADDR, d.launched.nvmaddr) {
-        return false;
-    }
-    if !is_within(NVMDATA0, data[0]) {
-        return false;
-    }
-    if !is_within(NVMDATA1, data[1]) {
-        return false;
-    }
-    if !is_within(NVMDATA2, data[2]) {
-        return false;
-    }
-    if !is_within(NVMDATA3, data[3]) {
-        return false;
-    }
-    is_within(NVMSRCADDR, d.launched.nvmsrcaddr)
+    is_within(NVMADDR, d.launched.nvmaddr)
+        && is_within(NVMDATA0, data[0])
+        && is_within(NVMDATA1, data[1])
+        && is_within(NVMDATA2, data[2])
+        && is_within(NVMDATA3, data[3])
+        && is_within(NVMSRCADDR, d.launched.nvmsrcaddr)
 }
 
 // Whether what was launched is all 0.
@@ -56,22 +46,12 @@ fn nothing_launched(d: Device) -> bool
     ensures { result ≡ nothing_launched_of d.launched }
 {
     let data = d.launched.nvmdata;
-    if d.launched.nvmaddr != 0 {
-        return false;
-    }
-    if data[0] != 0 {
-        return false;
-    }
-    if data[1] != 0 {
-        return false;
-    }
-    if data[2] != 0 {
-        return false;
-    }
-    if data[3] != 0 {
-        return false;
-    }
-    d.launched.nvmsrcaddr == 0
+    d.launched.nvmaddr == 0
+        && data[0] == 0
+        && data[1] == 0
+        && data[2] == 0
+        && data[3] == 0
+        && d.launched.nvmsrcaddr == 0
 }
 
 // Whether a device with WR = 0 holds nothing of an operation.
@@ -79,10 +59,7 @@ fn nothing_launched(d: Device) -> bool
 fn is_resting(d: Device) -> bool
     ensures { result ≡ resting_of d }
 {
-    if d.step != 0 {
-        return false;
-    }
-    nothing_launched(d)
+    d.step == 0 && nothing_launched(d)
 }
 
 // Whether an operation that runs can have been launched so.
@@ -91,19 +68,24 @@ fn is_running(g: Geometry, d: Device) -> bool
     requires { InRange g }
     ensures { result ≡ running_of g d }
 {
-    if d.keystep != 0 {
-        return false;
+    d.keystep == 0
+        && has(d.nvmcon.0, Nvmcon::WRERR)
+        && !has(d.nvmcon.0, Nvmcon::LVDERR)
+        && launched_begins(g, d)
+        && d.step < length(g, op(d))
+}
+
+// Whether the operation, or that there is none, fits the rest of the device.
+#[tactic(auto, unfolding(crate::specs::Possible::possible_of))]
+fn is_running_or_resting(g: Geometry, d: Device) -> bool
+    requires { InRange g }
+    ensures { result ≡ pick (running d) (running_of g d) (resting_of d) }
+{
+    if has(d.nvmcon.0, Nvmcon::WR) {
+        is_running(g, d)
+    } else {
+        is_resting(d)
     }
-    if !has(d.nvmcon.0, Nvmcon::WRERR) {
-        return false;
-    }
-    if has(d.nvmcon.0, Nvmcon::LVDERR) {
-        return false;
-    }
-    if !launched_begins(g, d) {
-        return false;
-    }
-    d.step < length(g, op(d))
 }
 
 // Whether decline 3 does not apply.
@@ -112,20 +94,9 @@ pub fn is_possible(g: Geometry, d: Device) -> bool
     requires { InRange g }
     ensures { result ≡ possible_of g d }
 {
-    if !is_implemented(d) {
-        return false;
-    }
-    if !launched_fits(d) {
-        return false;
-    }
-    if !has(d.nvmbwp.0, Nvmbwp::ALWAYS) {
-        return false;
-    }
-    if 3 < d.keystep {
-        return false;
-    }
-    if has(d.nvmcon.0, Nvmcon::WR) {
-        return is_running(g, d);
-    }
-    is_resting(d)
+    is_implemented(d)
+        && launched_fits(d)
+        && has(d.nvmbwp.0, Nvmbwp::ALWAYS)
+        && d.keystep <= 3
+        && is_running_or_resting(g, d)
 }

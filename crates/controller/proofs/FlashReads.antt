@@ -1,5 +1,6 @@
 -- A flash read finds its word by the map, and waits where a step of the running operation, or any of NVMOP 7, lies in its bank. Assumes nothing.
 use mathlib.Core.Path.{◌≡◌, refl, sym, ap, subst, ◌∙◌}
+use Rattle.std.specs.Prelude.{Ok, Err}
 use mathlib.Core.Bool.{Bool, true, false, not}
 use mathlib.Core.List.{List, [], ◌∷◌}
 use Prim.Native.Nat.{ℕ, zero, suc, ◌%◌, ◌*◌, ◌≤◌}
@@ -11,7 +12,7 @@ use borrow.Author.Tests.{not-false, eqb-true, eq-eqb, ne_eqb}
 use Rattle.words.specs.Word.{pick}
 use Rattle.words.specs.Quad.{word_at}
 use Rattle.words.specs.declared.decline.Decline.{Decline}
-use Rattle.words.specs.Decline.{number_of, accepted_of, first_of}
+use Rattle.words.specs.Decline.{Verdict, number_of, accepted_of, first_of}
 use Rattle.words.proofs.Numbers.{numbers}
 use Rattle.words.proofs.BitLaws.{true_not_false}
 use Rattle.geometry.specs.declared.banks.Geometry.{Geometry}
@@ -113,21 +114,21 @@ module _ (g : Geometry) (s : State) (sram : List ℕ) (address : ℕ) where
   number = number_of own.after.decline
 
   -- 1 to 3, and the address after them
-  abbrev common : Decline
+  abbrev common : Verdict
   common = common_decline_of g s.device (lengths_of s) (length sram)
 
-  abbrev pub addressed : Decline
-  addressed = pick (readable_of g address) Decline.Accepted Decline.Address
+  abbrev pub addressed : Verdict
+  addressed = pick (readable_of g address) (Ok tt) (Err Decline.Address)
 
   -- the number is that of the declines
   pub same_number : number ≡ number_of (first_of common addressed)
   unfolding flash_read_of flash_read_decline_of
   same_number = go (first_of common addressed) (accepted_of (first_of common addressed)) refl
     where
-      go : (d : Decline) (t : Bool) → accepted_of d ≡ t
+      go : (d : Verdict) (t : Bool) → accepted_of d ≡ t
           → number_of
           (pick t
-          (let r = ready_of g s sram address in reading (after Decline.Accepted r.state r.event) (word_read_of g r.state address))
+          (let r = ready_of g s sram address in reading (after (Ok tt) r.state r.event) (word_read_of g r.state address))
           (reading (after d s false) 0)).after.decline
           ≡ number_of d
       go d true on = sym (eqb-true _ _ on)

@@ -2,6 +2,7 @@
 -- and where WR falls it is 0. So it is what the registers hold until one of them is stored to while an operation runs.
 -- Assumes nothing.
 use mathlib.Core.Path.{◌≡◌, refl, sym, ap, ◌∙◌}
+use Rattle.std.specs.Prelude.{Ok}
 use mathlib.Core.Bool.{Bool, true, false, ◌&&◌, and-false}
 use mathlib.Core.List.{List, [], ◌∷◌}
 use Prim.Native.Nat.{ℕ, ◌+◌, ◌*◌, ◌/◌, ◌%◌}
@@ -14,10 +15,10 @@ use Rattle.words.specs.Decline.{accepted_of}
 use Rattle.words.proofs.PickLaws.{pick_both, and_both}
 use Rattle.words.proofs.BitLaws.{true_not_false, clear_bit, has_bit}
 use Rattle.geometry.specs.declared.banks.Geometry.{Geometry}
-use Rattle.sequence.specs.declared.comparison.Reason.{Reason}
+use Rattle.sequence.specs.Comparison.{Reason}
 use Rattle.device.specs.declared.record.Device.{Device}
 use Rattle.device.specs.declared.record.Operands.{Operands}
-use Rattle.register_access.specs.declared.RegisterRead.{RegisterRead}
+use Rattle.register_access.specs.RegisterRead.{RegisterRead}
 use Rattle.device.specs.Registers.{WR, WRERR, BFSWAP, NVMERS, resets}
 use Rattle.device.specs.Numbers.{NVMCON, NVMPWP, NVMBWP, NVMCON2}
 use Rattle.device.specs.Builders.{power_on, with_con, with_stored, with_launched, with_operands}
@@ -32,7 +33,6 @@ use Rattle.register_access.proofs.AcceptedLaws.{store_ready, store_at_rest}
 use Rattle.register_fields.specs.Fields.{wanted_of}
 use Rattle.flash.specs.Effect.{step_at_of, source_fits_of, effect_of}
 use Rattle.flash.specs.Step.{ended_of, step_of}
-use Rattle.words.specs.declared.decline.Decline.{Decline}
 use Rattle.map.specs.Windows.{locate_of}
 use Rattle.reads.specs.Read.{second_at_of, free_of, Stepped, stepped, remaining_of, waited_of, read_answer_of, word_read_of, Reading, reading, flash_read_of}
 use Rattle.resets.specs.Reset.{reset_con_of, reset_device_of, reset_decline_of, reset_answer_of, tear_of}
@@ -137,7 +137,7 @@ read_with g s o can sram address =
 
     read : State → Bool → Bool → Reading
     read t a free =
-        pick a (let w = ready t free in reading (after Decline.Accepted w.state w.event) (word_read_of g w.state address))
+        pick a (let w = ready t free in reading (after (Ok tt) w.state w.event) (word_read_of g w.state address))
         (reading (after (read_answer_of g s sram address) t false) 0)
 
     go : (a free : Bool) → SameReading (read s a free) (read (state_with o s) a free)

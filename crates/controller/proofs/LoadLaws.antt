@@ -2,6 +2,7 @@
 -- the device. So two states that differ in these registers alone go on alike.
 -- Assumes nothing.
 use mathlib.Core.Path.{◌≡◌, refl, sym, ap, ◌∙◌}
+use Rattle.std.specs.Prelude.{Ok, Err}
 use mathlib.Core.Bool.{Bool, true, false}
 use mathlib.Core.List.{List, [], ◌∷◌}
 use Prim.Native.Nat.{ℕ, zero, suc, ◌+◌, ◌^◌, ◌≤◌, ◌<◌}
@@ -19,7 +20,7 @@ use Rattle.geometry.specs.declared.banks.Geometry.{Geometry}
 use Rattle.geometry.specs.Banks.{one_of, in_range_of}
 use Rattle.device.specs.declared.record.Device.{Device}
 use Rattle.device.specs.declared.record.Operands.{Operands}
-use Rattle.device.specs.declared.answer.Answer.{Answer}
+use Rattle.device.specs.Answer.{Answer}
 use Rattle.device.specs.Registers.{WR, WRERR}
 use Rattle.device.specs.Numbers.{NVMADDR, NVMDATA0, NVMDATA1, NVMDATA2, NVMDATA3, NVMSRCADDR}
 use Rattle.device.specs.Builders.{with_con, with_operands}
@@ -142,7 +143,7 @@ unfolding may_store_of
 asks d r on = rw on
 
 declines : (g : Geometry) (d : Device) (r form : ℕ) → in_range_of g ≡ true → possible_of g d ≡ true → has_form_of r form ≡ true
-    → store_decline_of g d r form ≡ pick (may_store_of d r) Decline.Accepted Decline.Running
+    → store_decline_of g d r form ≡ pick (may_store_of d r) (Ok tt) (Err Decline.Running)
 unfolding store_decline_of
 declines g d r form listed can formed = rw (opens g d [] 0 listed tt (omega arith) can, formed)
 
@@ -159,7 +160,7 @@ answers g s r form value listed can on formed = go (loads_of r) refl
         ap (λ (a : Answer). number_of a.decline) (store_carried g d r form value listed can formed (asks d r on ∙ loads))
         ∙ pick_both (λ (a : Answer). number_of a.decline ≡ 0) (eqb r 0) refl refl
     go false loads =
-        let busy = declines g d r form listed can formed ∙ ap (λ (t : Bool). pick t Decline.Accepted Decline.Running) (asks d r on ∙ loads) in
+        let busy = declines g d r form listed can formed ∙ ap (λ (t : Bool). pick t (Ok tt) (Err Decline.Running)) (asks d r on ∙ loads) in
         by_store g d r form value (λ a. number_of a.decline ≡ 5) (λ yes'. true_not_false (sym yes' ∙ ap accepted_of busy)) (λ off. ap number_of busy)
 
 pub loaded : (g : Geometry) (s : State) (r form value : ℕ) → loads_of r ≡ true → running s.device ≡ true → length s.device.nvmdata ≡ 4
@@ -237,8 +238,8 @@ module _ (g : Geometry) (s : State) (o : Operands) (can : possible_of g (with_op
       ) (go (accepted_of (step_answer_of g s sram)))
     where
       go : (t : Bool) → let e = effect_of g s sram in let a = advance_of g s.device e.aborts in
-          pick t (after Decline.Accepted (written_of s (with_operands a.device o) e.write) a.event) (after (step_answer_of g s sram) (state_with o s) false)
-          ≡ after_with o (pick t (after Decline.Accepted (written_of s a.device e.write) a.event) (after (step_answer_of g s sram) s false))
+          pick t (after (Ok tt) (written_of s (with_operands a.device o) e.write) a.event) (after (step_answer_of g s sram) (state_with o s) false)
+          ≡ after_with o (pick t (after (Ok tt) (written_of s a.device e.write) a.event) (after (step_answer_of g s sram) s false))
       go true = refl
       go false = refl
 

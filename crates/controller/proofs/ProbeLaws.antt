@@ -11,7 +11,7 @@ use Rattle.words.specs.Word.{pick}
 use Rattle.geometry.specs.declared.banks.Geometry.{Geometry}
 use Rattle.words.specs.Decline.{accepted_of}
 use Rattle.device.specs.declared.record.Device.{Device}
-use Rattle.device.specs.declared.answer.Answer.{Answer}
+use Rattle.device.specs.Answer.{Answer}
 use Rattle.device.specs.Builders.{with_con}
 use Rattle.device.specs.Numbers.{NVMKEY, NVMCON2, plain, key1, key2, key3}
 use Rattle.device.specs.Record.{register_of, is_open}

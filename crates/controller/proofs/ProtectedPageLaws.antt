@@ -17,7 +17,7 @@ use Rattle.words.specs.Word.{pick}
 use Rattle.words.specs.Quad.{word_at}
 use Rattle.words.proofs.BitLaws.{true_not_false}
 use Rattle.geometry.specs.declared.banks.Geometry.{Geometry}
-use Rattle.map.specs.declared.Location.{Location}
+use Rattle.map.specs.Windows.{Location}
 use Rattle.geometry.specs.Banks.{InRange, page_bytes_of, page_words_of, page_at, boot_words_of, boot_quads_of}
 use Rattle.map.specs.Windows.{window_bytes_of, page_of, quad_index_of}
 use Rattle.device.specs.declared.record.Device.{Device}

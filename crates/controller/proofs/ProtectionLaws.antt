@@ -15,7 +15,7 @@ use Rattle.words.specs.Word.{pick}
 use Rattle.words.specs.Quad.{quad_at, blank_quad}
 use Rattle.words.proofs.BitLaws.{true_not_false}
 use Rattle.geometry.specs.declared.banks.Geometry.{Geometry}
-use Rattle.map.specs.declared.Location.{Location}
+use Rattle.map.specs.Windows.{Location}
 use Rattle.geometry.specs.Banks.{InRange, page_bytes_of, round_down_of}
 use Rattle.map.specs.Windows.{located, page_of, quad_index_of, in_second_of}
 use Rattle.geometry.proofs.SizeLaws.{Unit, quad_unit, row_unit, page_unit, round_same_page}

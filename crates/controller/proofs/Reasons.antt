@@ -7,8 +7,8 @@ use borrow.Author.Tests.{eqb-true}
 use Rattle.words.specs.Quad.{word_at}
 use Rattle.words.specs.Decline.{accepted_of}
 use Rattle.geometry.specs.declared.banks.Geometry.{Geometry}
-use Rattle.sequence.specs.declared.comparison.Reason.{Reason}
-use Rattle.sequence.specs.declared.comparison.Comparison.{Comparison}
+use Rattle.sequence.specs.Comparison.{Reason}
+use Rattle.sequence.specs.Comparison.{Comparison}
 use Rattle.sequence.specs.Sequence.{sequence_index_of}
 use Rattle.sequence.specs.Comparison.{comparison}
 use Rattle.sequence.specs.Reasons.{Reasons}

@@ -12,13 +12,13 @@ use Rattle.words.specs.Quad.{word_at}
 use Rattle.geometry.specs.declared.banks.Geometry.{Geometry}
 use Rattle.words.specs.Decline.{accepted_of}
 use Rattle.device.specs.declared.record.Device.{Device}
-use Rattle.device.specs.declared.answer.Answer.{Answer}
-use Rattle.register_access.specs.declared.RegisterRead.{RegisterRead}
+use Rattle.device.specs.Answer.{Answer}
+use Rattle.register_access.specs.RegisterRead.{RegisterRead}
 use Rattle.device.specs.Record.{bfswap}
 use Rattle.common_declines.specs.Possible.{possible_of}
 use Rattle.register_access.specs.Store.{store_decline_of, store_accepted_of, store_of, read_decline_of, register_read_of}
 use Rattle.flash.proofs.AcceptedLaws.{step_ready}
-use Rattle.sequence.specs.declared.comparison.Reason.{Reason}
+use Rattle.sequence.specs.Comparison.{Reason}
 use Rattle.sequence.specs.Sequence.{sequence_index_of}
 use Rattle.sequence.specs.Comparison.{reason_number_of, comparison, compare_of}
 use Rattle.sequence.proofs.ComparisonLaws.{comparisons}

@@ -14,7 +14,7 @@ use Rattle.geometry.specs.declared.banks.Geometry.{Geometry}
 use Rattle.words.specs.Decline.{accepted_of}
 use Rattle.device.specs.declared.record.Device.{Device}
 use Rattle.launch.specs.declared.launch.Launched.{Launched}
-use Rattle.device.specs.declared.answer.Answer.{Answer}
+use Rattle.device.specs.Answer.{Answer}
 use Rattle.device.specs.Registers.{WR, WREN, NVMOP, LBWPULOCK, UBWPULOCK}
 use Rattle.device.specs.Builders.{with_con, with_launched, with_address, with_data, with_bwp}
 use Rattle.device.specs.Record.{register_of, is_open}

@@ -1,6 +1,7 @@
 -- A read that does not wait leaves the state; one that waits ends with WR at 0: each step raises the step number or ends the operation.
 -- Assumes nothing.
 use mathlib.Core.Path.{◌≡◌, refl, sym, ap, ◌∙◌}
+use Rattle.std.specs.Prelude.{Ok, Err}
 use mathlib.Core.Bool.{Bool, true, false, not, ◌&&◌, and-false}
 use mathlib.Core.List.{List, [], ◌∷◌}
 use Prim.Native.Nat.{ℕ, zero, suc, ◌+◌, ◌≤◌}
@@ -16,7 +17,7 @@ use Rattle.geometry.specs.Banks.{in_range_of}
 use Rattle.geometry.proofs.SizeLaws.{in-range}
 use Rattle.map.specs.Windows.{locate_of}
 use Rattle.device.specs.declared.record.Device.{Device}
-use Rattle.device.specs.declared.answer.Answer.{Answer}
+use Rattle.device.specs.Answer.{Answer}
 use Rattle.device.specs.Registers.{WR, WRERR}
 use Rattle.device.specs.Builders.{with_con}
 use Rattle.device.specs.Record.{running, bfswap, pfswap, op_of}
@@ -75,7 +76,7 @@ read_same g s sram address = go (accepted_of (read_answer_of g s sram address)) 
     done : Bool → Bool → Reading
     done a free =
         pick a
-        (let t = pick free (stepped s false) (waited_of g s sram) in reading (after Decline.Accepted t.state t.event) (word_read_of g t.state address))
+        (let t = pick free (stepped s false) (waited_of g s sram) in reading (after (Ok tt) t.state t.event) (word_read_of g t.state address))
         (reading (after (read_answer_of g s sram address) s false) 0)
 
     go : (a f : Bool) → (a && not f) ≡ false → (done a f).after.state ≡ s
@@ -207,7 +208,7 @@ step_idle g s sram idle =
     by_step g s sram (λ a. a.state ≡ s)
     (λ on.
     true_not_false
-    (sym (held (running s.device) Decline.Accepted Decline.Idle refl (neither (common_decline_of g s.device _ (length sram)) _ on).1).0 ∙ idle))
+    (sym (held (running s.device) (Ok tt) (Err Decline.Idle) refl (neither (common_decline_of g s.device _ (length sram)) _ on).1).0 ∙ idle))
     (λ off. refl)
 
 steps_idle : (g : Geometry) (s : State) (sram : List ℕ) (n : ℕ) → running s.device ≡ false → run_of g s (replicate n (step sram)) ≡ s

@@ -10,8 +10,7 @@ use lib.ListN.{length, replicate}
 use borrow.Author.Tests.{not-true, eqb-true, le-leb}
 use Rattle.words.specs.Word.{pick, has_of, clear_of}
 use Rattle.words.specs.Quad.{word_at}
-use Rattle.words.specs.declared.decline.Decline.{Decline}
-use Rattle.words.specs.Decline.{number_of, accepted_of, first_of}
+use Rattle.words.specs.Decline.{Verdict, number_of, accepted_of, first_of}
 use Rattle.words.proofs.PickLaws.{pick_both, and_both}
 use Rattle.words.proofs.BitLaws.{true_not_false}
 use Rattle.common_declines.specs.Possible.{running_of, possible_of}
@@ -22,7 +21,7 @@ use Rattle.geometry.specs.Lent.{most_sram, lengths_fit_of, lent_decline_up_to}
 use Rattle.geometry.proofs.SizeLaws.{in-range}
 use Rattle.map.specs.Windows.{locate_of}
 use Rattle.device.specs.declared.record.Device.{Device}
-use Rattle.device.specs.declared.answer.Answer.{Answer}
+use Rattle.device.specs.Answer.{Answer}
 use Rattle.device.specs.Registers.{WR, WRERR}
 use Rattle.device.specs.Builders.{with_con}
 use Rattle.device.specs.Record.{running, op_of}
@@ -306,7 +305,7 @@ answers_kept : (g : Geometry) (s : State) (sram : List ℕ) (address : ℕ) → 
     → number_of (flash_read_of g s sram address).after.decline ≡ number_of (flash_read_of g s [] address).after.decline
 answers_kept g s sram address short =
     same_number g s sram address
-    ∙ ap (λ (d : Decline). number_of (first_of d (addressed g s sram address))) (same_declines g s.device (lengths_of s) (length sram) short)
+    ∙ ap (λ (d : Verdict). number_of (first_of d (addressed g s sram address))) (same_declines g s.device (lengths_of s) (length sram) short)
     ∙ sym (same_number g s [] address)
 
 pub waits : Waits

@@ -22,14 +22,14 @@ use Rattle.flash.specs.declared.write.Write.{Write}
 use Rattle.flash.specs.Write.{one_after, two_after}
 use Rattle.nvmop.specs.Operation.{length_of}
 use Rattle.device.specs.declared.record.Device.{Device}
-use Rattle.device.specs.declared.answer.Answer.{Answer}
+use Rattle.device.specs.Answer.{Answer}
 use Rattle.device.specs.Builders.{with_con}
 use Rattle.device.specs.Registers.{WR, WRERR}
 use Rattle.flash.specs.Step.{ended_of, advance_of, step_effect_of, stepped_of, step_answer_of, step_of}
 use Rattle.flash.proofs.EffectLaws.{effect_second, effect_quad}
 use Rattle.flash.proofs.AcceptedLaws.{runs, step_ready}
 use Rattle.flash.proofs.WriteLaws.{written_length}
-use Rattle.sequence.specs.declared.comparison.Reason.{Reason}
+use Rattle.sequence.specs.Comparison.{Reason}
 use Rattle.resets.specs.Reset.{torn_of, while_running, tear_of, comparison_of, restart_of, reset_answer_of, Explained, explained, explained_of, reset_of}
 use Rattle.resets.proofs.AcceptedLaws.{reset_ready}
 use Rattle.device.specs.State.{State, bank_of, After, after}

@@ -4,9 +4,8 @@ use Rattle.std.specs.Prelude.{ℕ, ◌+◌, ◌*◌, ◌^◌, ◌≤◌, ◌<◌
 use Rattle.words.specs.Word.{pick}
 use Rattle.words.specs.Quad.{word_at}
 use Rattle.geometry.specs.declared.banks.Geometry.{Geometry}
-use Rattle.words.specs.declared.decline.Decline.{Decline}
 use Rattle.geometry.specs.Banks.{bank_words_of, page_at}
-use Rattle.words.specs.Decline.{accepted_of}
+use Rattle.words.specs.Decline.{Verdict, accepted_of}
 use Rattle.map.specs.Windows.{quad_index_of}
 use Rattle.device.specs.Registers.{within_of}
 use Rattle.device.specs.Builders.{power_on}
@@ -17,7 +16,7 @@ use Rattle.register_access.specs.Store.{store_of, register_read_of}
 use Rattle.start_up.specs.StartUp.{Access, start_up_stores, start_up_of}
 use Rattle.flash.specs.Effect.{step_location_of}
 use Rattle.flash.specs.Step.{step_of}
-use Rattle.sequence.specs.declared.comparison.Reason.{Reason}
+use Rattle.sequence.specs.Comparison.{Reason}
 use Rattle.sequence.specs.Sequence.{sequence_index_of}
 use Rattle.sequence.specs.Comparison.{reason_number_of, comparison, compare_of}
 use Rattle.resets.specs.Reset.{reset_of, reset_reason_of}
@@ -34,7 +33,7 @@ pub data Operation : Type 0 where
   reset : List ℕ → ℕ → List ℕ → Operation
 
 -- the answer to an operation
-abbrev pub answer_of : Geometry → State → Operation → Decline
+abbrev pub answer_of : Geometry → State → Operation → Verdict
 answer_of g s (store r form value) = (store_of g s.device r form value).decline
 answer_of g s (register_read r) = (register_read_of g s.device r).decline
 answer_of g s (flash_read sram address) = (flash_read_of g s sram address).after.decline

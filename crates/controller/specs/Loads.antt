@@ -1,8 +1,7 @@
 -- W-209, "Load the next target early": stores to registers 2 to 7 while an operation runs, and a device as 01 has it. Assumes nothing.
 use Rattle.std.specs.Prelude.{ℕ, ◌+◌, ◌*◌, ◌/◌, ◌%◌, ◌^◌, ◌<◌, ◌≡◌, Bool, true, false, ◌&&◌, List, [], ◌∷◌, eqb, leb, length}
 use Rattle.words.specs.Word.{pick}
-use Rattle.words.specs.declared.decline.Decline.{Decline}
-use Rattle.words.specs.Decline.{number_of, accepted_of}
+use Rattle.words.specs.Decline.{Verdict, number_of, accepted_of}
 use Rattle.geometry.specs.declared.banks.Geometry.{Geometry}
 use Rattle.geometry.specs.Banks.{one_of, in_range_of}
 use Rattle.device.specs.declared.record.Device.{Device}
@@ -48,7 +47,7 @@ Loads g s (load r form value ∷ rest) =
 
 -- the answers and events of the steps
 pub record Given : Type 0 where
-  pub decline : Decline
+  pub decline : Verdict
   pub event : Bool
 
 abbrev pub given_of : Geometry → State → List Move → List Given

@@ -2,8 +2,7 @@
 -- Assumes nothing.
 use Rattle.std.specs.Prelude.{ℕ, ◌≤◌, ◌≡◌, true, List, [], ◌∷◌, ◌++◌}
 use Rattle.geometry.specs.declared.banks.Geometry.{Geometry}
-use Rattle.words.specs.declared.decline.Decline.{Decline}
-use Rattle.words.specs.Decline.{accepted_of}
+use Rattle.words.specs.Decline.{Verdict, accepted_of}
 use Rattle.device.specs.declared.record.Device.{Device}
 use Rattle.device.specs.Numbers.{NVMKEY, NVMCON2, plain, key1, key2, key3}
 use Rattle.device.specs.Builders.{with_con}
@@ -38,11 +37,11 @@ Polls g s (own o ∷ rest) = Polls g (transition_of g s o) rest
 Polls g s (probe r ∷ rest) = (s.device.keystep ≤ 1) × Polls g (transition_of g s (register_read r)) rest
 
 -- the answers to a list of operations, and those to the list's own with the probe's reads among them
-abbrev pub answers_of : Geometry → State → List Operation → List Decline
+abbrev pub answers_of : Geometry → State → List Operation → List Verdict
 answers_of g s [] = []
 answers_of g s (o ∷ rest) = answer_of g s o ∷ answers_of g (transition_of g s o) rest
 
-abbrev pub own_answers_of : Geometry → State → List Move → List Decline
+abbrev pub own_answers_of : Geometry → State → List Move → List Verdict
 own_answers_of g s [] = []
 own_answers_of g s (own o ∷ rest) = answer_of g s o ∷ own_answers_of g (transition_of g s o) rest
 own_answers_of g s (probe r ∷ rest) = own_answers_of g (transition_of g s (register_read r)) rest

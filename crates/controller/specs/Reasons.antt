@@ -3,7 +3,7 @@ use Rattle.std.specs.Prelude.{ℕ, ◌≡◌, true, false, List}
 use Rattle.words.specs.Quad.{word_at}
 use Rattle.words.specs.Decline.{accepted_of}
 use Rattle.geometry.specs.declared.banks.Geometry.{Geometry}
-use Rattle.sequence.specs.declared.comparison.Reason.{Reason}
+use Rattle.sequence.specs.Comparison.{Reason}
 use Rattle.sequence.specs.Sequence.{sequence_index_of}
 use Rattle.sequence.specs.Comparison.{reason_number_of, comparison}
 use Rattle.sequence.specs.Reasons.{Reasons}

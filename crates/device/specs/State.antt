@@ -1,10 +1,10 @@
 -- What a call works on, and what it leaves. Assumes nothing.
 use Rattle.std.specs.Prelude.{ℕ, Bool, List}
+use Rattle.words.specs.Decline.{Verdict}
 use Rattle.std.specs.Borrow.{Bor}
 use Rattle.words.specs.Word.{pick}
-use Rattle.words.specs.declared.decline.Decline.{Decline}
 use Rattle.device.specs.declared.record.Device.{Device}
-use Rattle.device.specs.declared.answer.Answer.{Answer}
+use Rattle.device.specs.Answer.{Answer}
 
 -- the device, bank 1 and bank 2
 pub record State : Type 0 where
@@ -21,11 +21,11 @@ bank_of s second = pick second s.two s.one
 
 -- everything after a call: the answer, the state, the event
 pub record After : Type 0 where
-  pub decline : Decline
+  pub decline : Verdict
   pub state : State
   pub event : Bool
 
-abbrev pub after : Decline → State → Bool → After
+abbrev pub after : Verdict → State → Bool → After
 after decline s event = record { decline = decline; state = s; event = event }
 
 -- everything after a call that changes the device alone

@@ -36,13 +36,8 @@ pub fn no_operands() -> Operands
 pub fn power_on() -> Device
     ensures { result ≡ power_on }
 {
-    let nvmcon = Nvmcon::new(reset_value(Nvmcon::NUMBER));
-    let nvmpwp = Nvmpwp::new(reset_value(Nvmpwp::NUMBER));
-    let nvmbwp = Nvmbwp::new(reset_value(Nvmbwp::NUMBER));
-    let nvmcon2 = Nvmcon2::new(reset_value(Nvmcon2::NUMBER));
-    let launched = no_operands();
     Device {
-        nvmcon,
+        nvmcon: Nvmcon(reset_value(Nvmcon::NUMBER)),
         nvmkey: reset_value(NVMKEY),
         nvmaddr: reset_value(NVMADDR),
         nvmdata: [
@@ -52,12 +47,12 @@ pub fn power_on() -> Device
             reset_value(NVMDATA3),
         ],
         nvmsrcaddr: reset_value(NVMSRCADDR),
-        nvmpwp,
-        nvmbwp,
-        nvmcon2,
+        nvmpwp: Nvmpwp(reset_value(Nvmpwp::NUMBER)),
+        nvmbwp: Nvmbwp(reset_value(Nvmbwp::NUMBER)),
+        nvmcon2: Nvmcon2(reset_value(Nvmcon2::NUMBER)),
         keystep: 0,
         step: 0,
-        launched,
+        launched: no_operands(),
     }
 }
 
@@ -65,19 +60,17 @@ pub fn power_on() -> Device
 pub fn with_con(d: Device, con: u32, keystep: u32, step: u32) -> Device
     ensures { result ≡ with_con d con keystep step }
 {
-    let mut e = d;
-    let nvmcon = Nvmcon::new(con);
-    e.nvmcon = nvmcon;
-    e.keystep = keystep;
-    e.step = step;
-    e
+    Device {
+        nvmcon: Nvmcon(con),
+        keystep,
+        step,
+        ..d
+    }
 }
 
 // The device with other operands of the running operation.
 pub fn with_launched(d: Device, launched: Operands) -> Device
     ensures { result ≡ with_launched d launched }
 {
-    let mut e = d;
-    e.launched = launched;
-    e
+    Device { launched, ..d }
 }

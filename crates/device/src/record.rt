@@ -9,7 +9,7 @@ use crate::registers::{
 
 // What an operation works with: an address, four words of data and the address of a row's data.
 #[repr(C)]
-#[derive(Clone, Copy)]
+#[derive(Clone, Copy, PartialEq, Eq, Debug)]
 pub struct Operands {
     pub nvmaddr: u32,
     pub nvmdata: [u32; 4],
@@ -18,7 +18,7 @@ pub struct Operands {
 
 // The eleven registers, the key step, and of the running operation the step number and what it was launched with.
 #[repr(C)]
-#[derive(Clone, Copy)]
+#[derive(Clone, Copy, PartialEq, Eq, Debug)]
 pub struct Device {
     pub nvmcon: Nvmcon,
     pub nvmkey: u32,

@@ -3,7 +3,7 @@ ghost use Rattle.std.specs.Prelude.{◌≡◌, ◌<◌, get_or};
 ghost use Rattle.device.specs.Registers.{resets, within_of};
 
 #[repr(C)]
-#[derive(Clone, Copy)]
+#[derive(Clone, Copy, PartialEq, Eq, Debug)]
 pub struct Nvmcon(pub u32);
 
 impl Nvmcon {
@@ -22,16 +22,10 @@ impl Nvmcon {
     pub const BFSWAP: u32 = 0x40;
 
     pub const NVMOP: u32 = 0xF;
-
-    pub fn new(value: u32) -> Self
-        ensures { result ≡ record { 0 = value } }
-    {
-        Self(value)
-    }
 }
 
 #[repr(C)]
-#[derive(Clone, Copy)]
+#[derive(Clone, Copy, PartialEq, Eq, Debug)]
 pub struct Nvmpwp(pub u32);
 
 impl Nvmpwp {
@@ -40,16 +34,10 @@ impl Nvmpwp {
     pub const PWPULOCK: u32 = 0x8000_0000;
 
     pub const PWP: u32 = 0xFF_FFFF;
-
-    pub fn new(value: u32) -> Self
-        ensures { result ≡ record { 0 = value } }
-    {
-        Self(value)
-    }
 }
 
 #[repr(C)]
-#[derive(Clone, Copy)]
+#[derive(Clone, Copy, PartialEq, Eq, Debug)]
 pub struct Nvmbwp(pub u32);
 
 impl Nvmbwp {
@@ -65,16 +53,10 @@ impl Nvmbwp {
     pub const ALWAYS: u32 = 0x40;
 
     pub const UBWP: u32 = 0x1F;
-
-    pub fn new(value: u32) -> Self
-        ensures { result ≡ record { 0 = value } }
-    {
-        Self(value)
-    }
 }
 
 #[repr(C)]
-#[derive(Clone, Copy)]
+#[derive(Clone, Copy, PartialEq, Eq, Debug)]
 pub struct Nvmcon2(pub u32);
 
 impl Nvmcon2 {
@@ -93,12 +75,6 @@ impl Nvmcon2 {
     pub const NVMRETRY: u32 = 0x300;
 
     pub const SWAPLOCK: u32 = 0xC0;
-
-    pub fn new(value: u32) -> Self
-        ensures { result ≡ record { 0 = value } }
-    {
-        Self(value)
-    }
 }
 
 // The numbers of the registers that are plain words.

@@ -17,7 +17,7 @@ use Rattle.words.proofs.QuadLaws.{quad_word, blank_word, other_word}
 use Rattle.geometry.specs.declared.banks.Geometry.{Geometry}
 use Rattle.geometry.specs.Banks.{page_bytes_of}
 use Rattle.geometry.proofs.SizeLaws.{page_pos}
-use Rattle.map.specs.declared.Location.{Location}
+use Rattle.map.specs.Windows.{Location}
 use Rattle.map.specs.Windows.{located, locate_of, page_of, quad_index_of, in_second_of}
 use Rattle.map.proofs.WindowLaws.{window_found, page_below}
 use Rattle.device.specs.declared.record.Device.{Device}

@@ -1,6 +1,7 @@
 -- What an accepted step tells: the geometry is in range, the lengths fit, the device is possible, what runs.
 -- Assumes nothing.
 use mathlib.Core.Path.{◌≡◌, refl}
+use Rattle.std.specs.Prelude.{Ok, Err}
 use mathlib.Core.Bool.{Bool, true, not}
 use mathlib.Core.List.{[], ◌∷◌}
 use Prim.Native.Nat.{ℕ, ◌+◌}
@@ -14,7 +15,7 @@ use Rattle.geometry.specs.Banks.{InRange}
 use Rattle.words.specs.Decline.{accepted_of}
 use Rattle.words.proofs.DeclineLaws.{held, neither}
 use Rattle.device.specs.declared.record.Device.{Device}
-use Rattle.device.specs.declared.answer.Answer.{Answer}
+use Rattle.device.specs.Answer.{Answer}
 use Rattle.device.specs.Registers.{WRERR, LVDERR}
 use Rattle.device.specs.Record.{running, op_of}
 use Rattle.nvmop.specs.Operation.{launched_begins_of, length_of}
@@ -26,12 +27,12 @@ use Rattle.flash.specs.Effect.{Runs}
 use Rattle.flash.specs.Step.{step_decline_of, advance_of}
 
 -- a step that is not declined answers so
-pub advance_accepts : (g : Geometry) (d : Device) (aborts : Bool) → (advance_of g d aborts).decline ≡ Decline.Accepted
+pub advance_accepts : (g : Geometry) (d : Device) (aborts : Bool) → (advance_of g d aborts).decline ≡ Ok tt
 unfolding advance_of
 advance_accepts g d aborts = pick_both P aborts refl (pick_both P (eqb (d.step + 1) (length_of g (op_of d))) refl refl)
   where
     P : Answer → Type 0
-    P a = a.decline ≡ Decline.Accepted
+    P a = a.decline ≡ Ok tt
 
 module _ (g : Geometry) (d : Device) where
   -- an operation that runs on a possible device
@@ -50,5 +51,5 @@ module _ (g : Geometry) (d : Device) where
   step_ready one two sram h =
       let s = neither (common_decline_of g d (one ∷ two ∷ []) sram) _ h in
       let r = ready g d (one ∷ two ∷ []) sram s.0 in
-      let on = (held (running d) Decline.Accepted Decline.Idle refl s.1).0 in
+      let on = (held (running d) (Ok tt) (Err Decline.Idle) refl s.1).0 in
       (r, runs r.lent.range r.possible on, on)

@@ -13,7 +13,7 @@ use Rattle.words.specs.Quad.{quad_at, is_blank_of}
 use Rattle.words.proofs.PickLaws.{pick_both, and_both}
 use Rattle.words.proofs.BitLaws.{true_not_false}
 use Rattle.geometry.specs.declared.banks.Geometry.{Geometry}
-use Rattle.map.specs.declared.Location.{Location}
+use Rattle.map.specs.Windows.{Location}
 use Rattle.geometry.specs.Banks.{InRange, bank_words_of}
 use Rattle.map.specs.Windows.{window_bytes_of, located, quad_index_of, in_second_of}
 use Rattle.geometry.proofs.SizeLaws.{Unit, quad_unit, row_unit, page_unit}
@@ -94,6 +94,19 @@ module _ (g : Geometry) (ok : InRange g) where
   by_operation P (suc (suc (suc (suc (suc (suc (suc (suc op)))))))) address pwp b quad row page lower upper both =
       true_not_false (sym b ∙ none_above (suc (suc (suc (suc (suc (suc (suc (suc op)))))))) address pwp (omega arith))
 
+  target_stands : (op address pwp : ℕ) → begins_at_of g op address pwp ≡ true → op < 5 → (target_of g op address).inside ≡ true
+  unfolding begins_at_of
+  target_stands op address pwp b low =
+      by_operation (λ op. begins_at_of g op address pwp ≡ true → op < 5 → (target_of g op address).inside ≡ true) op address pwp b
+      (λ b l. begins_inside pwp (target_of g 2 address) b)
+      (λ b l. begins_inside pwp (target_of g 3 address) b)
+      (λ b l. begins_inside pwp (target_of g 4 address) b)
+      (λ b l. absurd (omega arith))
+      (λ b l. absurd (omega arith))
+      (λ b l. absurd (omega arith))
+      b
+      low
+
   pub step_room : (op address pwp step : ℕ) → begins_at_of g op address pwp ≡ true → step < length_of g op → Room (step_at_of g op address step)
   unfolding begins_at_of length_of step_at_of unit_of Room
   step_room op address pwp step b l =
@@ -126,6 +139,10 @@ module _ (g : Geometry) (d : Device) (runs : Runs g d) where
   pub target_fits : op_of d < 5 → (target_of g (op_of d) d.launched.nvmaddr).offset + 16 * d.step < 2 ^ 32
   unfolding step_at_of
   target_fits l = omega (arith, rw (lt-ltb (op_of d) 5 l) at runs_room, window_high (target_of g (op_of d) d.launched.nvmaddr).program)
+
+  -- NVMOP 2 to 4 run in a window
+  pub target_inside : op_of d < 5 → (target_of g (op_of d) d.launched.nvmaddr).inside ≡ true
+  target_inside low = target_stands g runs.range (op_of d) d.launched.nvmaddr (pwp_of d) runs.begins low
 
 -- a source that fits lies in the SRAM
 pub source_room : (d : Device) (sram : ℕ) → source_fits_of d sram ≡ true → source_word_of d + 4 ≤ sram

@@ -11,7 +11,7 @@ use Rattle.words.proofs.BitLaws.{has_bit}
 use Rattle.geometry.specs.declared.banks.Geometry.{Geometry}
 use Rattle.geometry.specs.Banks.{InRange, round_down_of}
 use Rattle.geometry.proofs.SizeLaws.{Unit, quad_unit, row_unit, page_unit}
-use Rattle.map.specs.declared.Location.{Location}
+use Rattle.map.specs.Windows.{Location}
 use Rattle.map.specs.Windows.{window_start_of, window_bytes_of, located, locate_of, word_index_of, quad_index_of, in_second_of}
 use Rattle.map.proofs.WindowLaws.{window_found, stands, unit_kept}
 use Rattle.map.proofs.Mapped.{at_offset, only}

@@ -14,7 +14,7 @@ use Rattle.words.proofs.BitLaws.{clear_bit, has_bit}
 use Rattle.words.proofs.MaskLaws.{Within, clear_within}
 use Rattle.geometry.specs.declared.banks.Geometry.{Geometry}
 use Rattle.device.specs.declared.record.Device.{Device}
-use Rattle.device.specs.declared.answer.Answer.{Answer}
+use Rattle.device.specs.Answer.{Answer}
 use Rattle.device.specs.Registers.{WR, WRERR, LVDERR}
 use Rattle.device.specs.Builders.{with_con}
 use Rattle.device.specs.Record.{running, op_of, no_operands}

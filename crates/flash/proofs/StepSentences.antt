@@ -1,6 +1,7 @@
 -- A step writes the quad of its place by the paper's cases, and its device ends or counts; each word of the banks and each register is then
 -- said, so that nothing else is a step. Assumes nothing.
 use mathlib.Core.Path.{◌≡◌, refl, sym, ap, subst, ◌∙◌}
+use Rattle.std.specs.Prelude.{Ok, Err}
 use mathlib.Core.Bool.{Bool, true, false, not, ◌&&◌, ◌||◌}
 use mathlib.Core.List.{List, [], ◌∷◌}
 use mathlib.Core.Logic.{◌⊎◌, inl, inr}
@@ -14,7 +15,7 @@ use borrow.Author.Tests.{eqb-true, eqb-false, eq-eqb, ne_eqb}
 use Rattle.words.specs.Word.{pick, bit, clear_of, all_below}
 use Rattle.words.specs.Quad.{word_at, quad_from, put_quad, blank_quad}
 use Rattle.words.specs.declared.decline.Decline.{Decline}
-use Rattle.words.specs.Decline.{number_of, accepted_of, first_of}
+use Rattle.words.specs.Decline.{Verdict, number_of, accepted_of, first_of}
 use Rattle.words.proofs.Numbers.{numbers}
 use Rattle.words.proofs.CaseLaws.{below_four}
 use Rattle.words.proofs.BitLaws.{true_not_false, clear_bit, bit_above, equal_by_bits}
@@ -282,17 +283,17 @@ module _ (g : Geometry) (s : State) (sram : List ℕ) (four : FourWords s.device
   abbrev own : After
   own = step_of g s sram
 
-  abbrev common : Decline
+  abbrev common : Verdict
   common = common_decline_of g s.device (lengths_of s) (length sram)
 
-  abbrev runs_or : Decline
-  runs_or = pick (running s.device) Decline.Accepted Decline.Idle
+  abbrev runs_or : Verdict
+  runs_or = pick (running s.device) (Ok tt) (Err Decline.Idle)
 
   same_number : number_of own.decline ≡ number_of (first_of common runs_or)
   unfolding step_of step_decline_of
   same_number = go (first_of common runs_or) (accepted_of (first_of common runs_or)) refl
     where
-      go : (d : Decline) (t : Bool) → accepted_of d ≡ t
+      go : (d : Verdict) (t : Bool) → accepted_of d ≡ t
           → number_of (pick t (stepped_of s (step_effect_of g s sram)) (after d s false)).decline ≡ number_of d
       go d true on = sym (eqb-true _ _ on)
       go d false off = refl

@@ -4,7 +4,7 @@ use Rattle.std.specs.Prelude.{ℕ, ◌+◌, ◌-◌, ◌*◌, ◌/◌, ◌%◌, 
 use Rattle.words.specs.Word.{pick}
 use Rattle.words.specs.Quad.{quad_at, quad_from, is_blank_of, blank_quad}
 use Rattle.geometry.specs.declared.banks.Geometry.{Geometry}
-use Rattle.map.specs.declared.Location.{Location}
+use Rattle.map.specs.Windows.{Location}
 use Rattle.geometry.specs.Banks.{InRange}
 use Rattle.map.specs.Windows.{located, page_of, quad_index_of, in_second_of}
 use Rattle.device.specs.declared.record.Device.{Device}

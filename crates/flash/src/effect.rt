@@ -1,19 +1,22 @@
 // What the next step of a running operation does: a step carries it out, and a reset tears it.
 // What asks for Runs, or for room in the banks, is no call of the device: its callers decide their decline first.
-ghost use Rattle.std.specs.Prelude.{◌≡◌, ◌+◌, ◌*◌, ◌≤◌, length};
+ghost use Rattle.std.specs.Prelude.{◌≡◌, ◌+◌, ◌*◌, ◌^◌, ◌<◌, ◌≤◌, true, length};
 ghost use Rattle.words.specs.Word.{pick};
 ghost use Rattle.words.specs.Quad.{quad_at};
 ghost use Rattle.geometry.specs.Banks.{InRange, bank_words_of};
 ghost use Rattle.device.specs.State.{lent};
 ghost use Rattle.map.specs.Windows.{window_bytes_of, located};
+ghost use Rattle.map.specs.Location.{stands_of};
 ghost use Rattle.flash.specs.Effect.{Runs, step_location_of, blocked_of, source_fits_of, source_word_of, effect, effect_at_of, effect_of};
 
 use crate::write::Write;
-use device::numbers::{LOWER_ERASE, QUAD_PROGRAM, ROW_PROGRAM, UPPER_ERASE};
+use device::numbers::{
+    LOWER_ERASE, NO_OPERATION, PAGE_ERASE, QUAD_PROGRAM, ROW_PROGRAM, UPPER_ERASE,
+};
 use device::record::Device;
 use device::registers::Nvmcon;
 use geometry::banks::Geometry;
-use map::{Location, in_second, page, quad_index};
+use map::Location;
 use nvmop::{op, target};
 use protection::is_boot_protected;
 use words::quad::{is_blank, quad_at, quad_from};
@@ -26,42 +29,40 @@ pub struct Effect {
     pub write: Write,
 }
 
-fn inside(program: bool, upper: bool, offset: u32) -> Location
-    ensures { result ≡ located program upper offset }
-{
-    Location {
-        inside: true,
-        program,
-        upper,
-        offset,
-    }
-}
-
 // Where the quad of the next step stands.
 #[tactic(auto, unfolding(crate::specs::Effect::step_at_of))]
 pub fn step_location(g: Geometry, d: Device) -> Location
     requires { Runs g d }
-    ensures { result ≡ step_location_of g d }
+    ensures { stands_of result ≡ step_location_of g d }
 {
     let op = op(d);
     let step = d.step;
-    if op < LOWER_ERASE {
-        let t = target(g, op, d.launched.nvmaddr);
-        return inside(t.program, t.upper, t.offset + 16 * step);
-    }
-    if op == LOWER_ERASE {
-        return inside(true, false, 16 * step);
-    }
-    if op == UPPER_ERASE {
-        return inside(true, true, 16 * step);
-    }
     let region = 8 * g.q * g.p;
-    if step < region {
-        let lower = 16 * step;
-        return inside(true, false, lower);
+    match op {
+        NO_OPERATION..=PAGE_ERASE => {
+            let target = target(g, op, d.launched.nvmaddr).unwrap();
+            Location {
+                offset: target.offset + 16 * step,
+                ..target
+            }
+        }
+        LOWER_ERASE => in_region(false, step),
+        UPPER_ERASE => in_region(true, step),
+        _ if step < region => in_region(false, step),
+        _ => in_region(true, step - region),
     }
-    let upper = 16 * (step - region);
-    inside(true, true, upper)
+}
+
+// Where a quad of a program region stands.
+fn in_region(upper: bool, quad: u32) -> Location
+    requires { 16 * quad < 2 ^ 32 }
+    ensures { stands_of result ≡ located true upper (16 * quad) }
+{
+    Location {
+        program: true,
+        upper,
+        offset: 16 * quad,
+    }
 }
 
 // Whether that quad is in a protected boot page.
@@ -69,12 +70,9 @@ pub fn step_location(g: Geometry, d: Device) -> Location
 fn is_blocked(g: Geometry, d: Device, l: Location) -> bool
     requires in_range { InRange g }
     requires offset_bound { l.offset + 16 ≤ window_bytes_of g l.program }
-    ensures { result ≡ blocked_of g d l }
+    ensures { result ≡ blocked_of g d (stands_of l) }
 {
-    if l.program {
-        return false;
-    }
-    is_boot_protected(d, l.upper, page(g, l))
+    !l.program && is_boot_protected(d, l.upper, l.page(g))
 }
 
 // The word of the SRAM at which the data of a row's next quad begins.
@@ -89,10 +87,7 @@ fn source_word(d: Device) -> usize
 fn source_fits(d: Device, sram: usize) -> bool
     ensures { result ≡ source_fits_of d sram }
 {
-    if d.launched.nvmsrcaddr % 4 != 0 {
-        return false;
-    }
-    source_word(d) + 4 <= sram
+    d.launched.nvmsrcaddr % 4 == 0 && source_word(d) + 4 <= sram
 }
 
 // A quad as it is before the step.
@@ -100,10 +95,8 @@ pub fn old_quad(one: &[u32], two: &[u32], second: bool, quad: u32) -> [u32; 4]
     requires { (4 * quad + 4 ≤ length one.now) × (4 * quad + 4 ≤ length two.now) }
     ensures { result ≡ quad_at (pick second two.now one.now) quad }
 {
-    if second {
-        return quad_at(two, quad as usize);
-    }
-    quad_at(one, quad as usize)
+    let bank = if second { two } else { one };
+    quad_at(bank, quad as usize)
 }
 
 // What the next step does to a quad that is not in a protected boot page.
@@ -152,8 +145,8 @@ pub fn next_effect(g: Geometry, d: Device, one: &[u32], two: &[u32], sram: &[u32
     let l = step_location(g, d);
     let bfswap = has(d.nvmcon.0, Nvmcon::BFSWAP);
     let pfswap = has(d.nvmcon.0, Nvmcon::PFSWAP);
-    let second = in_second(l, bfswap, pfswap);
-    let quad = quad_index(g, l);
+    let second = l.is_second(bfswap, pfswap);
+    let quad = l.quad_index(g);
     if is_blocked(g, d, l) {
         return doing(false, false, second, quad, [0xFFFF_FFFF; 4]);
     }

@@ -1,5 +1,6 @@
 -- What a limit lets pass has its P up to the limit, and up to 64 both limits let pass the same. Assumes nothing.
 use Prim.Native.Nat.{ℕ, ◌≤◌, ◌<◌}
+use Rattle.std.specs.Prelude.{Ok, Err}
 use mathlib.Core.Path.{◌≡◌, refl, ap, ◌∙◌}
 use mathlib.Core.Bool.{Bool, true, false}
 use mathlib.Core.List.{List}
@@ -53,7 +54,7 @@ declined g lengths sram high = rw (refused (in_range_of g) refl)
 same_answers : (g : Geometry) (lengths : List ℕ) (sram : ℕ) → g.p ≤ most_before → lent_decline_of g lengths sram ≡ lent_decline_up_to most_before g lengths sram
 unfolding lent_decline_up_to
 same_answers g lengths sram h =
-    ap (λ (b : Bool). pick b (pick (lengths_fit_of g lengths sram) Decline.Accepted Decline.Length) Decline.Geometry) (same_range g h)
+    ap (λ (b : Bool). pick b (pick (lengths_fit_of g lengths sram) (Ok tt) (Err Decline.Length)) (Err Decline.Geometry)) (same_range g h)
 
 pub larger_banks : LargerBanks
 larger_banks =

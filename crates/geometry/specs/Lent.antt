@@ -1,8 +1,9 @@
 -- Declines 1 and 2: the geometry, and the lengths of what is lent with it. Assumes nothing.
-use Rattle.std.specs.Prelude.{ℕ, ◌+◌, ◌*◌, ◌≤◌, ◌<◌, ◌≡◌, Bool, true, false, ◌&&◌, List, [], ◌∷◌, eqb, leb, length, get_or}
+use Rattle.std.specs.Prelude.{ℕ, ◌+◌, ◌*◌, ◌≤◌, ◌<◌, ◌≡◌, Bool, true, false, ◌&&◌, List, [], ◌∷◌, eqb, leb, length, get_or, Ok, Err}
 use Rattle.words.specs.Word.{pick}
 use Rattle.geometry.specs.declared.banks.Geometry.{Geometry}
 use Rattle.words.specs.declared.decline.Decline.{Decline}
+use Rattle.words.specs.Decline.{Verdict}
 use Rattle.geometry.specs.declared.lent.Lent.{Lent}
 use Rattle.geometry.specs.declared.lent.Lent.TheVariants.{Nothing, Bank, Banks, BanksAndImage}
 use Rattle.geometry.specs.Banks.{most_program_pages, in_range_up_to, in_range_of, bank_words_of}
@@ -33,11 +34,11 @@ pub record Fit (g : Geometry) (lengths : List ℕ) (sram : ℕ) : Type 0 where
   pub room : sram ≤ 16384
 
 -- declines 1 and 2 where P is at most `most`, by the lengths of the banks and the image, and of the SRAM, which is 0 where none is lent
-unfoldable pub lent_decline_up_to : ℕ → Geometry → List ℕ → ℕ → Decline
+unfoldable pub lent_decline_up_to : ℕ → Geometry → List ℕ → ℕ → Verdict
 lent_decline_up_to most g lengths sram =
-    pick (in_range_up_to most g) (pick (lengths_fit_of g lengths sram) Decline.Accepted Decline.Length) Decline.Geometry
+    pick (in_range_up_to most g) (pick (lengths_fit_of g lengths sram) (Ok tt) (Err Decline.Length)) (Err Decline.Geometry)
 
-abbrev pub lent_decline_of : Geometry → List ℕ → ℕ → Decline
+abbrev pub lent_decline_of : Geometry → List ℕ → ℕ → Verdict
 lent_decline_of g lengths sram = lent_decline_up_to most_program_pages g lengths sram
 
 -- what 1 and 2 ask of the number of an answer: "The lowest number that applies is returned"

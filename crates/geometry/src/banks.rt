@@ -21,10 +21,7 @@ pub const MOST_PROGRAM_PAGES: u32 = 128;
 fn is_listed(q: u32) -> bool
     ensures { result ≡ listed_of q }
 {
-    match q {
-        1 | 2 | 4 | 8 | 16 | 32 | 64 | 128 => true,
-        _ => false,
-    }
+    matches!(q, 1 | 2 | 4 | 8 | 16 | 32 | 64 | 128)
 }
 
 // Whether decline 1 does not apply.
@@ -32,19 +29,7 @@ fn is_listed(q: u32) -> bool
 pub fn in_range(g: Geometry) -> bool
     ensures { result ≡ in_range_of g }
 {
-    if !is_listed(g.q) {
-        return false;
-    }
-    if g.b < 1 {
-        return false;
-    }
-    if MOST_BOOT_PAGES < g.b {
-        return false;
-    }
-    if g.p < 1 {
-        return false;
-    }
-    g.p <= MOST_PROGRAM_PAGES
+    is_listed(g.q) && 1 <= g.b && g.b <= MOST_BOOT_PAGES && 1 <= g.p && g.p <= MOST_PROGRAM_PAGES
 }
 
 // The sizes below serve the layers above, which ask in_range first: no call of the device.

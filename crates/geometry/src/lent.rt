@@ -27,46 +27,24 @@ fn lengths_fit(g: Geometry, lent: Lent, sram: usize) -> bool
     let room = sram <= MOST_SRAM;
     match lent {
         Lent::Nothing => room,
-        Lent::Bank(bank) => {
-            if bank != words {
-                return false;
-            }
-            room
-        }
-        Lent::Banks(one, two) => {
-            if one != words {
-                return false;
-            }
-            if two != words {
-                return false;
-            }
-            room
-        }
+        Lent::Bank(bank) => bank == words && room,
+        Lent::Banks(one, two) => one == words && two == words && room,
         Lent::BanksAndImage(one, two, image) => {
-            if one != words {
-                return false;
-            }
-            if two != words {
-                return false;
-            }
-            if image != words {
-                return false;
-            }
-            room
+            one == words && two == words && image == words && room
         }
     }
 }
 
 // Which of declines 1 and 2 applies to a geometry, banks and an SRAM of these lengths.
 #[tactic(auto, unfolding(crate::specs::Lent::lent_decline_up_to))]
-pub fn lent_decline(g: Geometry, lent: Lent, sram: usize) -> Decline
+pub fn lent_decline(g: Geometry, lent: Lent, sram: usize) -> Result<(), Decline>
     ensures { result ≡ lent_decline_of g (lengths_of lent) sram }
 {
     if !in_range(g) {
-        return Decline::Geometry;
+        return Err(Decline::Geometry);
     }
     if !lengths_fit(g, lent, sram) {
-        return Decline::Length;
+        return Err(Decline::Length);
     }
-    Decline::Accepted
+    Ok(())
 }

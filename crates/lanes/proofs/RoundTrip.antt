@@ -1,13 +1,13 @@
 -- Byte k of word i and byte i of lane k are the same byte, so each way undoes the other; and what goes to all these places is one list.
 -- Assumes nothing.
 use mathlib.Core.Path.{◌≡◌, refl, sym, ap, ◌∙◌}
+use Rattle.std.specs.Prelude.{Ok}
 use mathlib.Core.Bool.{Bool, true, false}
 use mathlib.Core.List.{List}
 use Prim.Native.Nat.{ℕ, ◌*◌, ◌<◌}
 use native.Mathlib.Omega.{arith}
 use lib.ListN.{length, get_or}
-use Rattle.words.specs.declared.decline.Decline.{Decline}
-use Rattle.words.specs.Decline.{number_of, accepted_of}
+use Rattle.words.specs.Decline.{Verdict, number_of, accepted_of}
 use Rattle.words.proofs.BitLaws.{true_not_false}
 use Rattle.words.proofs.Numbers.{numbers}
 use Rattle.lanes.specs.Lanes.{words_in, lanes_out_of, lanes_back_of, lanes_decline_of, target_of}
@@ -38,10 +38,10 @@ module _ (from to : ℕ → ℕ → ℕ → ℕ) (way : List ℕ → List ℕ) (
     → get_or (way source) (to (words_in source) k i) 0 ≡ get_or source (from (words_in source) k i) 0)
     (known : (n : ℕ) (a b : List ℕ) → length a ≡ 4 * n → length b ≡ 4 * n
     → ((k i : ℕ) → k < 4 → i < n → get_or a (to n k i) 0 ≡ get_or b (to n k i) 0) → a ≡ b) (source target : List ℕ) where
-  abbrev judged : Decline
+  abbrev judged : Verdict
   judged = lanes_decline_of (length source) (length target)
 
-  fits : (n : ℕ) → length source ≡ 4 * n → length target ≡ 4 * n → judged ≡ Decline.Accepted
+  fits : (n : ℕ) → length source ≡ 4 * n → length target ≡ 4 * n → judged ≡ Ok tt
   fits n s t = even_accepted (length source) (length target) (s ∙ sym t) (omega (arith, s))
 
   written : (n : ℕ) → length source ≡ 4 * n → length target ≡ 4 * n → target_of way source target ≡ way source
@@ -60,7 +60,7 @@ module _ (from to : ℕ → ℕ → ℕ → ℕ) (way : List ℕ → List ℕ) (
             ap (λ (l : List ℕ). get_or l (to n k i) 0) (written n s t) ∙ rw (count n s) at (goes source k i hk (omega (arith, s, hi)));
       }
 
-  way_fixes : (decline : Decline) (after : List ℕ) → Way from to source target decline after
+  way_fixes : (decline : Verdict) (after : List ℕ) → Way from to source target decline after
       → (decline ≡ judged) × (after ≡ target_of way source target)
   way_fixes decline after w = go (accepted_of judged) refl
     where

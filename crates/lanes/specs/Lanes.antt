@@ -1,8 +1,8 @@
 -- The byte lanes of an image, and decline 22. Assumes nothing.
-use Rattle.std.specs.Prelude.{ℕ, zero, suc, ◌+◌, ◌*◌, ◌/◌, ◌%◌, ◌&&◌, List, [], ◌∷◌, ◌++◌, eqb, length, get_or}
+use Rattle.std.specs.Prelude.{ℕ, zero, suc, ◌+◌, ◌*◌, ◌/◌, ◌%◌, ◌&&◌, List, [], ◌∷◌, ◌++◌, eqb, length, get_or, Ok, Err}
 use Rattle.words.specs.Word.{pick}
 use Rattle.words.specs.declared.decline.Decline.{Decline}
-use Rattle.words.specs.Decline.{accepted_of}
+use Rattle.words.specs.Decline.{Verdict, accepted_of}
 
 -- the first n values of f, from f 0
 abbrev pub tabulate : (ℕ → ℕ) → ℕ → List ℕ
@@ -26,8 +26,8 @@ unfoldable pub lanes_back_of : List ℕ → List ℕ
 lanes_back_of lanes = tabulate (λ i. get_or lanes (i % 4 * words_in lanes + i / 4) 0) (4 * words_in lanes)
 
 -- "22, the two lengths differ or aren't a multiple of 4"
-unfoldable pub lanes_decline_of : ℕ → ℕ → Decline
-lanes_decline_of source target = pick (eqb source target && eqb (source % 4) 0) Decline.Accepted Decline.Lanes
+unfoldable pub lanes_decline_of : ℕ → ℕ → Verdict
+lanes_decline_of source target = pick (eqb source target && eqb (source % 4) 0) (Ok tt) (Err Decline.Lanes)
 
 -- "only the target is written": the target after a way out or back; as before where that is declined
 abbrev pub target_of : (List ℕ → List ℕ) → List ℕ → List ℕ → List ℕ

@@ -4,7 +4,8 @@ ghost use Rattle.std.specs.Prelude.{◌≡◌};
 ghost use Rattle.geometry.specs.Banks.{InRange};
 ghost use Rattle.launch.specs.ConStore.{launches_of, con_store_of};
 
-use crate::launch::{Launched, launch};
+use crate::launch::{Launched, launch, nothing_launched};
+use device::builders::with_con;
 use device::record::Device;
 use device::registers::Nvmcon;
 use geometry::banks::Geometry;
@@ -16,13 +17,7 @@ use words::word::{has, merge};
 fn launches(d: Device, w: u32) -> bool
     ensures { result ≡ launches_of d w }
 {
-    if !has(w, Nvmcon::WR) {
-        return false;
-    }
-    if !has(d.nvmcon.0, Nvmcon::WREN) {
-        return false;
-    }
-    d.keystep == 3
+    has(w, Nvmcon::WR) && has(d.nvmcon.0, Nvmcon::WREN) && d.keystep == 3
 }
 
 // NVMCON after a store, whether there was an event, and what is launched.
@@ -31,16 +26,10 @@ pub fn con_store(g: Geometry, d: Device, w: u32) -> Launched
     requires { InRange g }
     ensures { result ≡ con_store_of g d w }
 {
-    let mut taken = d;
-    let nvmcon = Nvmcon::new(merge(con_takes(d), w, d.nvmcon.0));
-    taken.nvmcon = nvmcon;
+    let nvmcon = merge(con_takes(d), w, d.nvmcon.0);
     if launches(d, w) {
-        return launch(g, taken);
-    }
-    let operands = d.launched;
-    Launched {
-        nvmcon: taken.nvmcon.0,
-        event: false,
-        operands,
+        launch(g, with_con(d, nvmcon, d.keystep, d.step))
+    } else {
+        nothing_launched(d, nvmcon)
     }
 }

@@ -1,8 +1,8 @@
 // The launch.
 // What asks for InRange here is no call of the device: its callers ask in_range first.
-ghost use Rattle.std.specs.Prelude.{◌≡◌};
+ghost use Rattle.std.specs.Prelude.{◌≡◌, false};
 ghost use Rattle.geometry.specs.Banks.{InRange};
-ghost use Rattle.launch.specs.Launch.{launch_of};
+ghost use Rattle.launch.specs.Launch.{launched, launch_of};
 
 use device::builders::operands;
 use device::numbers::{BOTH_ERASE, NO_OPERATION, QUAD_PROGRAM};
@@ -27,46 +27,30 @@ pub fn launch(g: Geometry, d: Device) -> Launched
     ensures { result ≡ launch_of g d }
 {
     let con = d.nvmcon.0;
-    let op = op(d);
-    let kept = d.launched;
-    if op == NO_OPERATION {
-        return Launched {
-            nvmcon: clear(con, Nvmcon::WRERR + Nvmcon::LVDERR),
-            event: false,
-            operands: kept,
-        };
-    }
-    if has(con, Nvmcon::WRERR + Nvmcon::LVDERR) {
-        return Launched {
-            nvmcon: con,
-            event: false,
-            operands: kept,
-        };
-    }
-    if op < QUAD_PROGRAM {
-        return Launched {
-            nvmcon: con,
-            event: false,
-            operands: kept,
-        };
-    }
-    if BOTH_ERASE < op {
-        return Launched {
-            nvmcon: con,
-            event: false,
-            operands: kept,
-        };
-    }
-    if begins(g, d) {
-        return Launched {
+    match op(d) {
+        NO_OPERATION => nothing_launched(d, clear(con, Nvmcon::WRERR + Nvmcon::LVDERR)),
+        _ if has(con, Nvmcon::WRERR + Nvmcon::LVDERR) => nothing_launched(d, con),
+        QUAD_PROGRAM..=BOTH_ERASE if begins(g, d) => Launched {
             nvmcon: con | Nvmcon::WR + Nvmcon::WRERR,
             event: false,
             operands: operands(d),
-        };
+        },
+        QUAD_PROGRAM..=BOTH_ERASE => Launched {
+            nvmcon: con | Nvmcon::WRERR,
+            event: true,
+            operands: d.launched,
+        },
+        _ => nothing_launched(d, con),
     }
+}
+
+// What was launched stays, and there is no event.
+pub fn nothing_launched(d: Device, nvmcon: u32) -> Launched
+    ensures { result ≡ launched nvmcon false d.launched }
+{
     Launched {
-        nvmcon: con | Nvmcon::WRERR,
-        event: true,
-        operands: kept,
+        nvmcon,
+        event: false,
+        operands: d.launched,
     }
 }

@@ -6,7 +6,7 @@ use native.Mathlib.Omega.{arith}
 use Rattle.geometry.specs.declared.banks.Geometry.{Geometry}
 use Rattle.geometry.specs.Banks.{InRange}
 use Rattle.geometry.proofs.SizeLaws.{in-range}
-use Rattle.map.specs.declared.Location.{Location}
+use Rattle.map.specs.Windows.{Location}
 use Rattle.map.specs.Windows.{window_start_of, in_window_of, located, locate_of}
 use Rattle.map.specs.Apart.{Apart, WindowsApart}
 use Rattle.map.proofs.WindowLaws.{within, window_found}

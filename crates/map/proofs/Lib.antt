@@ -1,3 +1,4 @@
 pub mod Apart
 pub mod WindowLaws
 pub mod Mapped
+pub mod LocationLaws

@@ -12,7 +12,7 @@ use borrow.Author.Tests.{le-leb, lt-leb, le-ltb, lt-ltb, leb-true, ltb-true}
 use Rattle.words.specs.Word.{pick}
 use Rattle.words.proofs.PickLaws.{and_both}
 use Rattle.geometry.specs.declared.banks.Geometry.{Geometry}
-use Rattle.map.specs.declared.Location.{Location}
+use Rattle.map.specs.Windows.{Location}
 use Rattle.geometry.specs.Banks.{InRange, page_bytes_of, boot_words_of, boot_quads_of, bank_words_of, round_down_of}
 use Rattle.map.specs.Windows.{upper_boot, lower_program, window_start_of, window_bytes_of, located, nowhere}
 use Rattle.map.specs.Windows.{in_window_of, or_else, locate_of, page_of, word_index_of, quad_index_of}

@@ -1,3 +1,4 @@
 pub mod Apart
 pub mod Windows
 pub mod Mapped
+pub mod Location

@@ -2,7 +2,6 @@
 use Rattle.std.specs.Prelude.{ℕ, ◌+◌, ◌-◌, ◌/◌, Bool, true, false, not, ◌&&◌, leb, ltb}
 use Rattle.words.specs.Word.{pick}
 use Rattle.geometry.specs.declared.banks.Geometry.{Geometry}
-use Rattle.map.specs.declared.Location.{Location}
 use Rattle.geometry.specs.Banks.{boot_bytes_of, boot_words_of, boot_quads_of, program_bytes_of, page_bytes_of}
 
 -- "lower boot alias 0x1FC00000, upper boot alias 0x1FC20000"
@@ -26,6 +25,13 @@ window_start_of g program upper = pick program (pick upper (upper_program g) low
 -- "each B pages", "each P pages"
 abbrev pub window_bytes_of : Geometry → Bool → ℕ
 window_bytes_of g program = pick program (program_bytes_of g) (boot_bytes_of g)
+
+-- where an address stands: inside a window or not, its kind and side, and the offset in bytes from its start
+pub record Location : Type 0 where
+  pub inside : Bool
+  pub program : Bool
+  pub upper : Bool
+  pub offset : ℕ
 
 abbrev pub located : Bool → Bool → ℕ → Location
 located program upper offset = record { inside = true; program = program; upper = upper; offset = offset }

@@ -15,7 +15,7 @@ use Rattle.words.proofs.PickLaws.{never_false}
 use Rattle.geometry.specs.declared.banks.Geometry.{Geometry}
 use Rattle.geometry.specs.Banks.{InRange, in_range_of, page_bytes_of}
 use Rattle.geometry.proofs.SizeLaws.{in-range, page_pos}
-use Rattle.map.specs.declared.Location.{Location}
+use Rattle.map.specs.Windows.{Location}
 use Rattle.map.specs.Windows.{lower_program, window_start_of, window_bytes_of, located, locate_of, page_of}
 use Rattle.map.proofs.WindowLaws.{stands, window_found, page_below}
 use Rattle.protection.specs.Protection.{program_protected_of, page_offset_of}

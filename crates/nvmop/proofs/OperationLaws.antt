@@ -9,7 +9,7 @@ use lib.Dec.{eqb}
 use Rattle.words.specs.Word.{pick}
 use Rattle.words.proofs.PickLaws.{pick_both}
 use Rattle.geometry.specs.declared.banks.Geometry.{Geometry}
-use Rattle.map.specs.declared.Location.{Location}
+use Rattle.map.specs.Windows.{Location}
 use Rattle.geometry.specs.Banks.{InRange, round_down_of}
 use Rattle.map.specs.Windows.{window_bytes_of, page_of}
 use Rattle.map.proofs.WindowLaws.{stands, page_below}

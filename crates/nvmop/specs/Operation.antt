@@ -2,7 +2,7 @@
 use Rattle.std.specs.Prelude.{ℕ, ◌*◌, Bool, true, false, not, eqb, ltb}
 use Rattle.words.specs.Word.{pick}
 use Rattle.geometry.specs.declared.banks.Geometry.{Geometry}
-use Rattle.map.specs.declared.Location.{Location}
+use Rattle.map.specs.Windows.{Location}
 use Rattle.geometry.specs.Banks.{row_bytes_of, page_bytes_of, round_down_of}
 use Rattle.map.specs.Windows.{locate_of, page_of}
 use Rattle.device.specs.declared.record.Device.{Device}

@@ -4,7 +4,9 @@
 
 ghost use Rattle.std.specs.Prelude.{◌≡◌};
 ghost use Rattle.geometry.specs.Banks.{InRange};
+ghost use Rattle.map.specs.Location.{location_of};
 ghost use Rattle.device.specs.Record.{op_of};
+ghost use Rattle.protection.specs.Protection.{pwp_of};
 ghost use Rattle.nvmop.specs.Operation.{unit_of, target_of, target_begins_of, region_begins_of, begins_at_of, begins_of, launched_begins_of, length_of};
 
 use device::numbers::{
@@ -12,7 +14,7 @@ use device::numbers::{
 };
 use device::record::Device;
 use geometry::banks::{Geometry, page_bytes, round_down, row_bytes};
-use map::{Location, locate, page};
+use map::{Location, locate};
 use protection::{is_page_protected, pwp};
 
 // NVMOP.
@@ -28,70 +30,55 @@ pub fn unit(g: Geometry, op: u32) -> u32
     requires { InRange g }
     ensures { result ≡ unit_of g op }
 {
-    if op == QUAD_PROGRAM {
-        return 16;
+    match op {
+        QUAD_PROGRAM => 16,
+        ROW_PROGRAM => row_bytes(g),
+        _ => page_bytes(g),
     }
-    if op == ROW_PROGRAM {
-        return row_bytes(g);
-    }
-    page_bytes(g)
 }
 
 // Where NVMOP 2, 3 and 4 begin.
 #[tactic(auto, using(crate::proofs::OperationLaws::unit_pos), unfolding(crate::specs::Operation::target_of))]
-pub fn target(g: Geometry, op: u32, address: u32) -> Location
+pub fn target(g: Geometry, op: u32, address: u32) -> Option<Location>
     requires { InRange g }
-    ensures { result ≡ target_of g op address }
+    ensures { location_of result ≡ target_of g op address }
 {
     locate(g, round_down(address, unit(g, op)))
 }
 
-#[tactic(auto, using(crate::proofs::OperationLaws::target_page), unfolding(crate::specs::Operation::target_begins_of))]
-fn target_begins(g: Geometry, op: u32, address: u32, last: u32) -> bool
+#[tactic(auto, unfolding(crate::specs::Operation::target_begins_of))]
+fn target_begins(g: Geometry, d: Device, address: u32) -> bool
     requires { InRange g }
-    ensures { result ≡ target_begins_of g last (target_of g op address) }
+    ensures { result ≡ target_begins_of g (pwp_of d) (target_of g (op_of d) address) }
 {
-    let l = target(g, op, address);
-    if !l.inside {
-        return false;
+    match target(g, op(d), address) {
+        Some(l) => !l.program || !is_page_protected(g, pwp(d), l.upper, l.page(g)),
+        None => false,
     }
-    if !l.program {
-        return true;
-    }
-    !is_page_protected(g, last, l.upper, page(g, l))
 }
 
 // A region has a protected page where its first page is protected.
 #[tactic(auto, using(crate::proofs::OperationLaws::region_first))]
-fn region_begins(g: Geometry, last: u32, upper: bool) -> bool
+fn region_begins(g: Geometry, d: Device, upper: bool) -> bool
     requires { InRange g }
-    ensures { result ≡ region_begins_of g last upper }
+    ensures { result ≡ region_begins_of g (pwp_of d) upper }
 {
-    !is_page_protected(g, last, upper, 0)
+    !is_page_protected(g, pwp(d), upper, 0)
 }
 
-// Whether the launch of an NVMOP begins steps, by its address and by PWP.
+// Whether the launch of the device's NVMOP at an address begins steps, by PWP.
 #[tactic(auto, unfolding(crate::specs::Operation::begins_at_of))]
-fn begins_at(g: Geometry, op: u32, address: u32, last: u32) -> bool
+fn begins_at(g: Geometry, d: Device, address: u32) -> bool
     requires { InRange g }
-    ensures { result ≡ begins_at_of g op address last }
+    ensures { result ≡ begins_at_of g (op_of d) address (pwp_of d) }
 {
-    if op < QUAD_PROGRAM {
-        return false;
+    match op(d) {
+        QUAD_PROGRAM | ROW_PROGRAM | PAGE_ERASE => target_begins(g, d, address),
+        LOWER_ERASE => region_begins(g, d, false),
+        UPPER_ERASE => region_begins(g, d, true),
+        BOTH_ERASE => pwp(d) == 0,
+        _ => false,
     }
-    if op < LOWER_ERASE {
-        return target_begins(g, op, address, last);
-    }
-    if op == LOWER_ERASE {
-        return region_begins(g, last, false);
-    }
-    if op == UPPER_ERASE {
-        return region_begins(g, last, true);
-    }
-    if op == BOTH_ERASE {
-        return last == 0;
-    }
-    false
 }
 
 // Whether a launch of the device begins steps.
@@ -99,7 +86,7 @@ pub fn begins(g: Geometry, d: Device) -> bool
     requires { InRange g }
     ensures { result ≡ begins_of g d }
 {
-    begins_at(g, op(d), d.nvmaddr, pwp(d))
+    begins_at(g, d, d.nvmaddr)
 }
 
 // Whether it does with what the running operation was launched with.
@@ -107,7 +94,7 @@ pub fn launched_begins(g: Geometry, d: Device) -> bool
     requires { InRange g }
     ensures { result ≡ launched_begins_of g d }
 {
-    begins_at(g, op(d), d.launched.nvmaddr, pwp(d))
+    begins_at(g, d, d.launched.nvmaddr)
 }
 
 // The number of steps.
@@ -116,17 +103,11 @@ pub fn length(g: Geometry, op: u32) -> u32
     requires { InRange g }
     ensures { result ≡ length_of g op }
 {
-    if op == QUAD_PROGRAM {
-        return 1;
+    match op {
+        QUAD_PROGRAM => 1,
+        ROW_PROGRAM => g.q,
+        PAGE_ERASE => 8 * g.q,
+        BOTH_ERASE => 2 * (8 * g.q * g.p),
+        _ => 8 * g.q * g.p,
     }
-    if op == ROW_PROGRAM {
-        return g.q;
-    }
-    if op == PAGE_ERASE {
-        return 8 * g.q;
-    }
-    if op == BOTH_ERASE {
-        return 2 * (8 * g.q * g.p);
-    }
-    8 * g.q * g.p
 }

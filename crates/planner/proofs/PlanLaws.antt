@@ -1,6 +1,7 @@
 -- The answers of a plan, by which of the two tests holds, and what they tell: the search stops at the first wait that fits.
 -- Assumes nothing.
 use mathlib.Core.Path.{◌≡◌, refl, sym, ap, ◌∙◌}
+use Rattle.std.specs.Prelude.{Ok, Err}
 use mathlib.Core.Bool.{Bool, true, false}
 use mathlib.Core.List.{List}
 use mathlib.Core.Logic.{◌⊎◌, inl, inr}
@@ -23,7 +24,7 @@ use Rattle.planner.proofs.FitLaws.{fits_one, one_fits}
 use Rattle.planner.proofs.RangeLaws.{all_in, inside, facts, tested}
 
 module _ (minute duration : ℕ) (lent : List ℕ) where
-  pub plan_out : in_range_of minute duration lent ≡ false → planned Decline.Hours 0 ≡ plan_of minute duration lent
+  pub plan_out : in_range_of minute duration lent ≡ false → planned (Err Decline.Hours) 0 ≡ plan_of minute duration lent
   unfolding plan_of
   plan_out out = rw out
 
@@ -31,13 +32,13 @@ module _ (minute duration : ℕ) (lent : List ℕ) where
   module _ (i wait : ℕ) (count : i ≤ window_count_of lent) (ended : window_count_of lent ≤ i)
       (numbers : numbers_in_range_of minute duration (length lent) ≡ true) (windows : windows_in_range_of lent i ≡ true)
       (least : wait ≡ least_wait_of minute duration lent i) where
-    pub plan_none : week ≤ wait → planned Decline.NoWait 0 ≡ plan_of minute duration lent
+    pub plan_none : week ≤ wait → planned (Err Decline.NoWait) 0 ≡ plan_of minute duration lent
     unfolding plan_of
     plan_none l =
         let every : i ≡ window_count_of lent = omega arith in
         rw (all_in minute duration lent numbers (rw every at windows), ← every, ← least, le-ltb wait week l)
 
-    pub plan_found : wait < week → planned Decline.Accepted wait ≡ plan_of minute duration lent
+    pub plan_found : wait < week → planned (Ok tt) wait ≡ plan_of minute duration lent
     unfolding plan_of
     plan_found l =
         let every : i ≡ window_count_of lent = omega arith in
@@ -84,7 +85,7 @@ module _ (minute duration : ℕ) (lent : List ℕ) where
   number = number_of (plan_of minute duration lent).decline
 
   -- the answer where the numbers are in range and the first wait that fits is below the week
-  found : in_range_of minute duration lent ≡ true → first < week → planned Decline.Accepted first ≡ plan_of minute duration lent
+  found : in_range_of minute duration lent ≡ true → first < week → planned (Ok tt) first ≡ plan_of minute duration lent
   found range l =
       let (numbers, windows) = inside minute duration lent range in
       plan_found minute duration lent _ _ (le_refl _) (le_refl _) numbers windows refl l

@@ -1,7 +1,8 @@
 -- The plan: the smallest wait after which all minutes lie in the same window. Assumes nothing.
-use Rattle.std.specs.Prelude.{ℕ, ◌+◌, ◌%◌, Bool, List, ltb}
+use Rattle.std.specs.Prelude.{ℕ, ◌+◌, ◌%◌, Bool, List, ltb, Ok, Err}
 use Rattle.words.specs.Word.{pick, all_below, any_below, first_from}
 use Rattle.words.specs.declared.decline.Decline.{Decline}
+use Rattle.words.specs.Decline.{Verdict}
 use Rattle.planner.specs.declared.plan.Planned.{Planned}
 use Rattle.planner.specs.Windows.{week, Window, window_count_of, window_at, held_of, in_range_of}
 
@@ -17,12 +18,12 @@ fits_of minute duration lent n wait = any_below (λ i. fits_in_of minute duratio
 abbrev pub least_wait_of : ℕ → ℕ → List ℕ → ℕ → ℕ
 least_wait_of minute duration lent n = first_from (fits_of minute duration lent n) 0 week
 
-abbrev pub planned : Decline → ℕ → Planned
+abbrev pub planned : Verdict → ℕ → Planned
 planned decline wait = record { decline = decline; wait = wait }
 
 -- "15, any of these numbers out of range; 16, checked after it, no wait fits"; beside a decline the wait is 0 (ours)
 abbrev pub answer_of : Bool → Bool → ℕ → Planned
-answer_of in_range fits wait = pick in_range (pick fits (planned Decline.Accepted wait) (planned Decline.NoWait 0)) (planned Decline.Hours 0)
+answer_of in_range fits wait = pick in_range (pick fits (planned (Ok tt) wait) (planned (Err Decline.NoWait) 0)) (planned (Err Decline.Hours) 0)
 
 -- the answer by all windows of a lent list
 unfoldable pub plan_of : ℕ → ℕ → List ℕ → Planned

@@ -21,10 +21,7 @@ pub fn pwp(d: Device) -> u32
 fn is_program_protected(last: u32, offset: u32) -> bool
     ensures { result ≡ program_protected_of last offset }
 {
-    if last == 0 {
-        return false;
-    }
-    offset <= last
+    last != 0 && offset <= last
 }
 
 // Whether the boot page of an alias is protected. No call of the device: there are at most five.
@@ -32,10 +29,8 @@ pub fn is_boot_protected(d: Device, upper: bool, page: u32) -> bool
     requires { page < 5 }
     ensures { result ≡ boot_protected_of d upper page }
 {
-    if upper {
-        return (d.nvmbwp.0 >> page) % 2 == 1;
-    }
-    (d.nvmbwp.0 >> (8 + page)) % 2 == 1
+    let lock = if upper { page } else { 8 + page };
+    (d.nvmbwp.0 >> lock) % 2 == 1
 }
 
 // The offset of a program page from 0x1D000000.
@@ -44,10 +39,8 @@ fn page_offset(g: Geometry, upper: bool, page: u32) -> u32
     requires page_lt_p { page < g.p }
     ensures { result ≡ page_offset_of g upper page }
 {
-    if !upper {
-        return page * page_bytes(g);
-    }
-    program_bytes(g) + page * page_bytes(g)
+    let start = if upper { program_bytes(g) } else { 0 };
+    start + page * page_bytes(g)
 }
 
 // Whether PWP protects a page of a program region. No call of the device: callers show that there is such a page.
@@ -67,7 +60,8 @@ pub fn is_protected(g: Geometry, d: Device, program: bool, upper: bool, page: u3
     ensures { result ≡ protected_of g d program upper page }
 {
     if program {
-        return is_page_protected(g, pwp(d), upper, page);
+        is_page_protected(g, pwp(d), upper, page)
+    } else {
+        is_boot_protected(d, upper, page)
     }
-    is_boot_protected(d, upper, page)
 }

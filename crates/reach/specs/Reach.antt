@@ -2,8 +2,7 @@
 use Rattle.std.specs.Prelude.{ℕ, zero, suc, ◌+◌, ◌-◌, ◌*◌, ◌/◌, ◌%◌, Bool, not, List, [], ◌∷◌, eqb, ltb, length}
 use Rattle.words.specs.Word.{pick}
 use Rattle.words.specs.Quad.{word_at}
-use Rattle.words.specs.declared.decline.Decline.{Decline}
-use Rattle.words.specs.Decline.{accepted_of}
+use Rattle.words.specs.Decline.{Verdict, accepted_of}
 use Rattle.geometry.specs.declared.banks.Geometry.{Geometry}
 use Rattle.geometry.specs.Banks.{boot_quads_of, bank_words_of}
 use Rattle.geometry.specs.Lent.{lent_decline_of}
@@ -50,7 +49,7 @@ answer_of g d =
     pick (eqb d.count 1) (pick (eqb (d.lowest / 4) (sequence_quad_of g)) NoAction (Action (data_place_of g d.lowest))) (Words d)
 
 -- declines 1 and 2, by the lengths of the two images
-abbrev pub reach_decline_of : Geometry → List ℕ → List ℕ → Decline
+abbrev pub reach_decline_of : Geometry → List ℕ → List ℕ → Verdict
 reach_decline_of g image other = lent_decline_of g (length image ∷ length other ∷ []) 0
 
 -- the call; where it is declined the answer is a case of its own (ours)

@@ -12,7 +12,7 @@ use Rattle.words.specs.Quad.{word_at}
 use Rattle.words.specs.Decline.{accepted_of}
 use Rattle.geometry.specs.declared.banks.Geometry.{Geometry}
 use Rattle.sequence.specs.Sequence.{sequence_quad_of, sequence_index_of}
-use Rattle.sequence.specs.declared.comparison.Comparison.{Comparison}
+use Rattle.sequence.specs.Comparison.{Comparison}
 use Rattle.device.specs.declared.record.Device.{Device}
 use Rattle.device.specs.Record.{running}
 use Rattle.device.specs.State.{State, After, bank_of}

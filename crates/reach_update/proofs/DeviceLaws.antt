@@ -15,7 +15,7 @@ use Rattle.words.specs.Decline.{accepted_of}
 use Rattle.geometry.specs.declared.banks.Geometry.{Geometry}
 use Rattle.geometry.specs.Banks.{in_range_of}
 use Rattle.device.specs.declared.record.Device.{Device}
-use Rattle.device.specs.declared.answer.Answer.{Answer}
+use Rattle.device.specs.Answer.{Answer}
 use Rattle.device.specs.Builders.{with_con, with_launched}
 use Rattle.device.specs.Registers.{WRERR, LVDERR, PFSWAP, SWAPLOCK}
 use Rattle.device.specs.Numbers.{no_operation, quad_program, both_erase, NVMCON, NVMCON2, set as setForm}

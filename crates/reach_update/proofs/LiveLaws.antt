@@ -2,6 +2,7 @@
 -- same register on, which puts the same word there.
 -- Assumes nothing.
 use mathlib.Core.Path.{◌≡◌, refl, sym, ap, ◌∙◌}
+use Rattle.std.specs.Prelude.{Ok, Err}
 use mathlib.Core.Bool.{Bool, true, false}
 use mathlib.Core.List.{List}
 use Prim.Native.Nat.{ℕ, zero, suc, ◌+◌, ◌%◌, ◌≤◌, ◌<◌}
@@ -127,7 +128,7 @@ module _ (g : Geometry) (s : State) (image other : List ℕ) (i : ℕ) (update :
         → (perform_of g p.state sram a).state.device ≡ (perform_of g q.state sram a).state.device
     same_device e (Store r form value) ok = ap (λ (d : Device). (store_of g d r form value).device) e
     same_device e Step ok =
-        let on = (held (running p.state.device) Decline.Accepted Decline.Idle refl ok).0 in
+        let on = (held (running p.state.device) (Ok tt) (Err Decline.Idle) refl ok).0 in
         let at_p = pair.at_p in
         let at_q = pair.at_q in
         let devices : at_p.device ≡ at_q.device =

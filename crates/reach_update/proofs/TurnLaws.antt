@@ -2,6 +2,7 @@
 -- are the same up to the differing store, and their devices are the same again from the next store to that register on.
 -- Assumes nothing.
 use mathlib.Core.Path.{◌≡◌, refl, sym, ap, ◌∙◌}
+use Rattle.std.specs.Prelude.{Ok, Err}
 use mathlib.Core.Bool.{true}
 use mathlib.Core.List.{List}
 use mathlib.Core.Logic.{◌⊎◌, inl, inr}
@@ -69,7 +70,7 @@ module _ (g : Geometry) (s : State) (image other : List ℕ) (i : ℕ) (update :
         })
     action_near short Step Step alike ok =
         step_near g s image other i update also same p q pair.at_p pair.at_q pair.near
-        (held (running p.state.device) Decline.Accepted Decline.Idle refl ok).0 sram short
+        (held (running p.state.device) (Ok tt) (Err Decline.Idle) refl ok).0 sram short
     action_near short (Store r form v) Step alike ok = absurd alike
     action_near short Step (Store r form v) alike ok = absurd alike
 

@@ -1,5 +1,6 @@
 -- What an accepted flash read tells: what is lent fits, the device is possible, and the address is in a window. Assumes nothing.
 use mathlib.Core.Path.{◌≡◌, refl}
+use Rattle.std.specs.Prelude.{Err}
 use mathlib.Core.Bool.{Bool, true, false}
 use mathlib.Core.List.{[], ◌∷◌}
 use Prim.Native.Nat.{ℕ, ◌%◌}
@@ -20,7 +21,7 @@ pub read_ready : (g : Geometry) (d : Device) (one two sram address : ℕ) → ac
 unfolding flash_read_decline_of
 read_ready g d one two sram address h =
     let s0 = neither (common_decline_of g d (one ∷ two ∷ []) sram) _ h in
-    let s1 = held (readable_of g address) _ Decline.Address refl s0.1 in
+    let s1 = held (readable_of g address) _ (Err Decline.Address) refl s0.1 in
     (ready g d (one ∷ two ∷ []) sram s0.0, inside (locate_of g address).inside s1.0)
   where
     inside : (t : Bool) → pick t (eqb (address % 4) 0) false ≡ true → t ≡ true

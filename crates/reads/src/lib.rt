@@ -1,52 +1,46 @@
 // Flash reads.
 #![tactic(auto)]
 
-ghost use Rattle.std.specs.Prelude.{◌≡◌, true, length};
-ghost use Rattle.geometry.specs.Banks.{InRange, bank_words_of};
-ghost use Rattle.map.specs.Windows.{locate_of};
-ghost use Rattle.words.specs.declared.decline.Decline.{Decline};
+ghost use Rattle.std.specs.Prelude.{◌≡◌, ◌<◌, true, length, Ok, Err, MatchResult};
+ghost use Rattle.words.specs.Quad.{word_at};
 ghost use Rattle.words.specs.Decline.{accepted_of};
-ghost use Rattle.device.specs.State.{state, lent, after};
+ghost use Rattle.geometry.specs.Banks.{InRange, bank_words_of};
+ghost use Rattle.map.specs.Windows.{window_bytes_of, locate_of, word_index_of};
+ghost use Rattle.map.specs.Location.{stands_of};
+ghost use Rattle.device.specs.State.{state, lent, bank_of};
 ghost use Rattle.common_declines.specs.Possible.{possible_of};
 ghost use Rattle.flash.specs.Step.{step_decline_of};
-ghost use Rattle.reads.specs.Read.{second_at_of, free_of, readable_of, flash_read_decline_of, stepped, steps_of, word_read_of, reading, flash_read_of};
+ghost use Rattle.reads.specs.Read.{second_at_of, free_of, flash_read_decline_of, stepped, steps_of, reading_from, flash_read_of};
 
 use common_declines::common_decline::common_decline;
 use device::numbers::BOTH_ERASE;
+use device::outcome::Outcome;
 use device::record::Device;
 use device::registers::Nvmcon;
 use flash::effect::step_location;
 use flash::step::step_accepted;
 use geometry::banks::Geometry;
 use geometry::lent::Lent;
-use map::{Location, in_second, locate, word_index};
+use map::{Location, locate};
 use nvmop::{length, op};
 use words::decline::Decline;
 use words::word::has;
 
-// The answer to a flash read. Where it is declined the word is 0, and the device and the banks are as before.
+// What a flash read gives: the word, and the device after it, with an event where it had to wait.
 #[derive(Clone, Copy)]
-pub struct FlashRead {
-    pub decline: Decline,
+pub struct FlashWord {
     pub word: u32,
     pub event: bool,
     pub device: Device,
 }
 
-// What the steps of a read that waits leave of the device, and whether the last of them gave an event.
-#[derive(Clone, Copy)]
-struct Waited {
-    device: Device,
-    event: bool,
-}
-
 // Whether bank 2 stands at a place.
 fn second_at(d: Device, l: Location) -> bool
-    ensures { result ≡ second_at_of d l }
+    ensures { result ≡ second_at_of d (stands_of l) }
 {
     let bfswap = has(d.nvmcon.0, Nvmcon::BFSWAP);
     let pfswap = has(d.nvmcon.0, Nvmcon::PFSWAP);
-    in_second(l, bfswap, pfswap)
+    l.is_second(bfswap, pfswap)
 }
 
 // Whether no running operation targets the bank.
@@ -65,39 +59,28 @@ fn is_free(g: Geometry, d: Device, second: bool) -> bool
     second_at(d, step_location(g, d)) != second
 }
 
-fn is_readable(g: Geometry, address: u32) -> bool
-    requires { InRange g }
-    ensures { result ≡ readable_of g address }
-{
-    let l = locate(g, address);
-    if !l.inside {
-        return false;
-    }
-    address % 4 == 0
-}
-
+// Where the word of a read stands that is not declined.
 #[tactic(auto, unfolding(crate::specs::Read::flash_read_decline_of))]
-fn flash_read_decline(
+fn read_location(
     g: Geometry,
     d: Device,
     one: usize,
     two: usize,
     sram: usize,
     address: u32,
-) -> Decline
-    ensures { result ≡ flash_read_decline_of g d one two sram address }
+) -> Result<Location, Decline>
+    ensures { MatchResult result (λ l. (flash_read_decline_of g d one two sram address ≡ Ok tt) × (stands_of l ≡ locate_of g address))
+        (λ e. flash_read_decline_of g d one two sram address ≡ Err e) }
 {
-    let decline = common_decline(g, d, Lent::Banks(one, two), sram);
-    if !decline.is_accepted() {
-        return decline;
+    common_decline(g, d, Lent::Banks(one, two), sram)?;
+    match locate(g, address) {
+        Some(l) if address % 4 == 0 => Ok(l),
+        _ => Err(Decline::Address),
     }
-    if !is_readable(g, address) {
-        return Decline::Address;
-    }
-    Decline::Accepted
 }
 
-// Steps with an SRAM while WR is set, at most `count` of them. None is declined: each leaves a possible device.
+// Steps with an SRAM while WR is set, at most `count` of them, and whether the last of them gave an event. None is
+// declined: each leaves a possible device.
 fn steps(
     g: Geometry,
     d: Device,
@@ -105,64 +88,34 @@ fn steps(
     two: &mut [u32],
     sram: &[u32],
     count: u32,
-) -> Waited
+) -> Outcome
     requires { accepted_of (step_decline_of g d (length one.old) (length two.old) (length sram.now)) ≡ true }
     ensures { stepped (state result.device one.new two.new) result.event
         ≡ steps_of g sram.now count (state d one.old two.old) }
 {
     let mut device = d;
-    let mut left = count;
-    while 0 < left {
+    for _ in 0..count {
         let a = step_accepted(g, device, one, two, sram);
-        device = a.device;
-        if !has(device.nvmcon.0, Nvmcon::WR) {
-            return Waited {
-                device,
-                event: a.event,
-            };
+        if !has(a.device.nvmcon.0, Nvmcon::WR) {
+            return a;
         }
-        left -= 1;
+        device = a.device;
     }
-    Waited {
+    Outcome {
         device,
         event: false,
     }
 }
 
-// The word at an address of the four windows.
-fn word_read(g: Geometry, d: Device, one: &[u32], two: &[u32], address: u32) -> u32
+// The word at a place of the four windows.
+fn word_read(g: Geometry, d: Device, one: &[u32], two: &[u32], l: Location) -> u32
     requires in_range { InRange g }
     requires one_len { (length one.now ≡ bank_words_of g) × (length two.now ≡ bank_words_of g) }
-    requires address_value { (locate_of g address).inside ≡ true }
-    ensures { result ≡ word_read_of g (lent d one.entry two.entry) address }
+    requires room { l.offset < window_bytes_of g l.program }
+    ensures { result ≡ word_at (bank_of (lent d one.entry two.entry) (second_at_of d (stands_of l))) (word_index_of g (stands_of l)) }
 {
-    let l = locate(g, address);
-    let i = word_index(g, l) as usize;
-    if second_at(d, l) {
-        return two[i];
-    }
-    one[i]
-}
-
-// What a read of the banks as they are gives.
-fn given(g: Geometry, waited: Waited, one: &[u32], two: &[u32], address: u32) -> FlashRead
-    requires in_range { InRange g }
-    requires one_len { (length one.now ≡ bank_words_of g) × (length two.now ≡ bank_words_of g) }
-    requires address_value { (locate_of g address).inside ≡ true }
-    ensures { result ≡ record {
-      decline = Decline.Accepted;
-      word = word_read_of g (lent waited.device one.entry two.entry) address;
-      event = waited.event;
-      device = waited.device;
-    } }
-{
-    let device = waited.device;
-    FlashRead {
-        decline: Decline::Accepted,
-        word: word_read(g, device, one, two, address),
-        event: waited.event,
-        device,
-    }
+    let bank = if second_at(d, l) { two } else { one };
+    bank[l.word_index(g) as usize]
 }
 
 // A flash read: of a bank that the running operation works on it first carries out the steps that remain.
@@ -174,27 +127,21 @@ pub fn flash_read(
     two: &mut [u32],
     sram: &[u32],
     address: u32,
-) -> FlashRead
-    ensures { reading (after result.decline (state result.device one.new two.new) result.event) result.word
-        ≡ flash_read_of g (state d one.old two.old) sram.now address }
+) -> Result<FlashWord, Decline>
+    ensures { reading_from d result one.new two.new ≡ flash_read_of g (state d one.old two.old) sram.now address }
 {
-    let decline = flash_read_decline(g, d, one.len(), two.len(), sram.len(), address);
-    if !decline.is_accepted() {
-        return FlashRead {
-            decline,
-            word: 0,
-            event: false,
-            device: d,
-        };
-    }
-    if is_free(g, d, second_at(d, locate(g, address))) {
-        let now = Waited {
+    let l = read_location(g, d, one.len(), two.len(), sram.len(), address)?;
+    let waited = if is_free(g, d, second_at(d, l)) {
+        Outcome {
             device: d,
             event: false,
-        };
-        return given(g, now, one, two, address);
-    }
-    let count = length(g, op(d)) - d.step;
-    let waited = steps(g, d, one, two, sram, count);
-    given(g, waited, one, two, address)
+        }
+    } else {
+        steps(g, d, one, two, sram, length(g, op(d)) - d.step)
+    };
+    Ok(FlashWord {
+        word: word_read(g, waited.device, one, two, l),
+        event: waited.event,
+        device: waited.device,
+    })
 }

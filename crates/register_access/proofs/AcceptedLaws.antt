@@ -1,6 +1,7 @@
 -- What an accepted store or register read tells: the geometry is in range, the device possible, and so on.
 -- Assumes nothing.
 use mathlib.Core.Path.{◌≡◌, refl, sym, ◌∙◌}
+use Rattle.std.specs.Prelude.{Ok, Err}
 use mathlib.Core.Bool.{Bool, true, false}
 use mathlib.Core.List.{[]}
 use Prim.Native.Nat.{ℕ}
@@ -32,7 +33,7 @@ at_rest_lem g d h idle =
     record { listed = r.lent.listed; range = r.lent.range; possible = r.possible; idle = idle }
 
 -- the other way
-pub rest_opens : (g : Geometry) (d : Device) → AtRest g d → common_decline_of g d [] 0 ≡ Decline.Accepted
+pub rest_opens : (g : Geometry) (d : Device) → AtRest g d → common_decline_of g d [] 0 ≡ Ok tt
 rest_opens g d rest = opens g d [] 0 rest.listed tt (omega arith) rest.possible
 
 -- what an accepted store tells: 5 does not apply, at rest or by its register
@@ -47,7 +48,7 @@ pub store_ready : (g : Geometry) (d : Device) (r form : ℕ) → accepted_of (st
 unfolding store_decline_of
 store_ready g d r form h =
     let s0 = neither (common_decline_of g d [] 0) _ h in
-    let s1 = held (has_form_of r form) _ Decline.Register refl s0.1 in
+    let s1 = held (has_form_of r form) _ (Err Decline.Register) refl s0.1 in
     let s2 = held (may_store_of d r) _ _ refl s1.1 in
     let open' = ready g d [] 0 s0.0 in
     record { listed = open'.lent.listed; range = open'.lent.range; possible = open'.possible; formed = s1.0; may = s2.0 }

@@ -1,5 +1,6 @@
 -- A register read leaves all but the key step, so that the sentences say the whole device. Assumes nothing.
 use mathlib.Core.Path.{◌≡◌, refl, sym, subst, ◌∙◌}
+use Rattle.std.specs.Prelude.{Ok, Err}
 use mathlib.Core.Bool.{Bool, true, false}
 use mathlib.Core.List.{[]}
 use Prim.Native.Nat.{ℕ, ◌≤◌, ◌<◌}
@@ -9,7 +10,7 @@ use lib.Dec.{ltb}
 use borrow.Author.Tests.{eq-eqb, ne_eqb, lt-ltb, le-ltb}
 use Rattle.words.specs.Word.{pick}
 use Rattle.words.specs.declared.decline.Decline.{Decline}
-use Rattle.words.specs.Decline.{number_of, accepted_of, first_of}
+use Rattle.words.specs.Decline.{Verdict, number_of, accepted_of, first_of}
 use Rattle.words.proofs.Numbers.{numbers}
 use Rattle.words.proofs.PickLaws.{pick_both}
 use Rattle.geometry.specs.declared.banks.Geometry.{Geometry}
@@ -20,7 +21,7 @@ use Rattle.device.proofs.ByNumber.{known_by_numbers}
 use Rattle.common_declines.specs.CommonDecline.{common_decline_of, Usable, CommonDeclines}
 use Rattle.common_declines.proofs.DeclineLaws.{usable, used, common_first, common_fixes}
 use Rattle.register_fields.specs.Fields.{key_after_read_of}
-use Rattle.register_access.specs.declared.RegisterRead.{RegisterRead}
+use Rattle.register_access.specs.RegisterRead.{RegisterRead}
 use Rattle.register_access.specs.Store.{read_decline_of, register_read_of}
 use Rattle.register_access.specs.ReadSentences.{RegisterReadSentences, RegisterReadsFixed}
 
@@ -28,11 +29,11 @@ module _ (g : Geometry) (d : Device) (r : ℕ) (four : FourWords d) where
   abbrev own : RegisterRead
   own = register_read_of g d r
 
-  abbrev common : Decline
+  abbrev common : Verdict
   common = common_decline_of g d [] 0
 
-  abbrev known : Decline
-  known = pick (ltb 10 r) Decline.Register Decline.Accepted
+  abbrev known : Verdict
+  known = pick (ltb 10 r) (Err Decline.Register) (Ok tt)
 
   same_number : number_of own.decline ≡ number_of (first_of common known)
   unfolding register_read_of read_decline_of

@@ -18,7 +18,7 @@ use Rattle.words.proofs.Numbers.{numbers}
 use Rattle.geometry.specs.declared.banks.Geometry.{Geometry}
 use Rattle.geometry.specs.Banks.{in_range_of}
 use Rattle.device.specs.declared.record.Device.{Device}
-use Rattle.device.specs.declared.answer.Answer.{Answer}
+use Rattle.device.specs.Answer.{Answer}
 use Rattle.device.specs.Record.{register_of, running}
 use Rattle.device.specs.ByNumber.{launched_of, FourWords}
 use Rattle.device.proofs.ByNumber.{known_by_numbers}

@@ -1,3 +1,4 @@
+pub mod RegisterRead
 pub mod Store
 pub mod StoreSentences
 pub mod ReadSentences

@@ -6,7 +6,7 @@ use Rattle.device.specs.declared.record.Device.{Device}
 use Rattle.device.specs.Record.{register_of}
 use Rattle.device.specs.ByNumber.{launched_of, FourWords}
 use Rattle.common_declines.specs.CommonDecline.{Usable, CommonDeclines}
-use Rattle.register_access.specs.declared.RegisterRead.{RegisterRead}
+use Rattle.register_access.specs.RegisterRead.{RegisterRead}
 use Rattle.register_access.specs.Store.{register_read_of}
 
 pub record RegisterReadSentences (g : Geometry) (d : Device) (r : ℕ) (a : RegisterRead) : Type 0 where

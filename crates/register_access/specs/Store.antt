@@ -1,12 +1,12 @@
 -- Stores and register reads: why they are declined, and what they do. Assumes nothing.
-use Rattle.std.specs.Prelude.{ℕ, Bool, true, false, ◌&&◌, List, [], eqb, leb, ltb, set}
+use Rattle.std.specs.Prelude.{ℕ, Bool, true, false, ◌&&◌, List, [], eqb, leb, ltb, set, Ok, Err}
 use Rattle.words.specs.Word.{pick, merge_of}
 use Rattle.geometry.specs.declared.banks.Geometry.{Geometry}
 use Rattle.words.specs.declared.decline.Decline.{Decline}
-use Rattle.words.specs.Decline.{accepted_of, first_of}
+use Rattle.words.specs.Decline.{Verdict, accepted_of, first_of}
 use Rattle.device.specs.declared.record.Device.{Device}
-use Rattle.device.specs.declared.answer.Answer.{Answer}
-use Rattle.register_access.specs.declared.RegisterRead.{RegisterRead}
+use Rattle.device.specs.Answer.{Answer}
+use Rattle.register_access.specs.RegisterRead.{RegisterRead}
 use Rattle.device.specs.Builders.{with_con, with_stored, with_launched}
 use Rattle.device.specs.Record.{register_of, running}
 use Rattle.common_declines.specs.CommonDecline.{common_decline_of}
@@ -27,12 +27,12 @@ unfoldable pub may_store_of : Device → ℕ → Bool
 may_store_of d r = pick (running d) (loads_of r) true
 
 -- declines 1, 3, 4 and 5
-unfoldable pub store_decline_of : Geometry → Device → ℕ → ℕ → Decline
+unfoldable pub store_decline_of : Geometry → Device → ℕ → ℕ → Verdict
 store_decline_of g d r form =
     first_of (common_decline_of g d [] 0)
     (pick (has_form_of r form)
-    (pick (may_store_of d r) Decline.Accepted Decline.Running)
-    Decline.Register)
+    (pick (may_store_of d r) (Ok tt) (Err Decline.Running))
+    (Err Decline.Register))
 
 abbrev pub data_after : List ℕ → ℕ → ℕ → List ℕ
 data_after quad r w =
@@ -55,7 +55,7 @@ applied_of d r w =
     (pick (eqb r NVMKEY) (key_next_of d.keystep w) 0)
 
 abbrev pub accepted : Device → Bool → Answer
-accepted d event = record { decline = Decline.Accepted; device = d; event = event }
+accepted d event = record { decline = Ok tt; device = d; event = event }
 
 -- a store of the wanted value w that is not declined
 abbrev pub store_wanted : Geometry → Device → ℕ → ℕ → Answer
@@ -73,8 +73,8 @@ store_of g d r form value =
     (record { decline = store_decline_of g d r form; device = d; event = false })
 
 -- declines 1, 3 and 4
-unfoldable pub read_decline_of : Geometry → Device → ℕ → Decline
-read_decline_of g d r = first_of (common_decline_of g d [] 0) (pick (ltb NVMCON2 r) Decline.Register Decline.Accepted)
+unfoldable pub read_decline_of : Geometry → Device → ℕ → Verdict
+read_decline_of g d r = first_of (common_decline_of g d [] 0) (pick (ltb NVMCON2 r) (Err Decline.Register) (Ok tt))
 
 -- the value of the register, 0 where the read is declined (ours); the key step is W-203's, where 01 had "any register read, sets it to 0
 -- afterwards", and nothing else changes

@@ -4,7 +4,7 @@ use Rattle.words.specs.Word.{pick, bit}
 use Rattle.words.specs.Decline.{number_of}
 use Rattle.geometry.specs.declared.banks.Geometry.{Geometry}
 use Rattle.device.specs.declared.record.Device.{Device}
-use Rattle.device.specs.declared.answer.Answer.{Answer}
+use Rattle.device.specs.Answer.{Answer}
 use Rattle.device.specs.Record.{register_of}
 use Rattle.device.specs.ByNumber.{launched_of, FourWords}
 use Rattle.nvmop.specs.Failing.{Fails}

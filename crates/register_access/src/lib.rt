@@ -3,12 +3,14 @@
 
 ghost use Rattle.std.specs.Prelude.{◌≡◌};
 ghost use Rattle.geometry.specs.Banks.{InRange};
-ghost use Rattle.register_access.specs.Store.{has_form_of, may_store_of, store_decline_of, applied_of, store_accepted_of, store_of, read_decline_of, register_read_of};
+ghost use Rattle.device.specs.Answer.{answer_from};
+ghost use Rattle.register_access.specs.RegisterRead.{register_read_from};
+ghost use Rattle.register_access.specs.Store.{accepted, has_form_of, may_store_of, store_decline_of, applied_of, store_accepted_of, store_of, read_decline_of, register_read_of};
 
 use common_declines::common_decline::common_decline;
-use device::answer::Answer;
 use device::builders::{with_con, with_launched};
 use device::numbers::{INVERT, PLAIN};
+use device::outcome::Outcome;
 use device::record::{Device, register};
 use device::registers::{
     NVMADDR, NVMDATA0, NVMDATA1, NVMDATA2, NVMDATA3, NVMKEY, NVMSRCADDR, Nvmbwp, Nvmcon, Nvmcon2,
@@ -21,10 +23,9 @@ use register_fields::{bwp_takes, con2_takes, key_after_read, key_next, pwp_takes
 use words::decline::Decline;
 use words::word::{has, merge};
 
-// The answer to a register read. Where it is declined the device is as before and the value is 0.
+// The value of a register, and the device after the read.
 #[derive(Clone, Copy)]
-pub struct RegisterRead {
-    pub decline: Decline,
+pub struct RegisterValue {
     pub value: u32,
     pub device: Device,
 }
@@ -34,16 +35,7 @@ pub struct RegisterRead {
 fn has_form(number: u32, form: u32) -> bool
     ensures { result ≡ has_form_of number form }
 {
-    if Nvmcon2::NUMBER < number {
-        return false;
-    }
-    if INVERT < form {
-        return false;
-    }
-    if number == NVMKEY {
-        return form == PLAIN;
-    }
-    true
+    number <= Nvmcon2::NUMBER && form <= INVERT && (number != NVMKEY || form == PLAIN)
 }
 
 // Whether decline 5 does not apply to a store. No call of the device.
@@ -51,30 +43,21 @@ fn has_form(number: u32, form: u32) -> bool
 pub fn may_store(d: Device, number: u32) -> bool
     ensures { result ≡ may_store_of d number }
 {
-    if !has(d.nvmcon.0, Nvmcon::WR) {
-        return true;
-    }
-    if number < NVMADDR {
-        return false;
-    }
-    number <= NVMSRCADDR
+    !has(d.nvmcon.0, Nvmcon::WR) || (NVMADDR <= number && number <= NVMSRCADDR)
 }
 
 #[tactic(auto, unfolding(crate::specs::Store::store_decline_of))]
-fn store_decline(g: Geometry, d: Device, number: u32, form: u32) -> Decline
+fn store_decline(g: Geometry, d: Device, number: u32, form: u32) -> Result<(), Decline>
     ensures { result ≡ store_decline_of g d number form }
 {
-    let decline = common_decline(g, d, Lent::Nothing, 0);
-    if !decline.is_accepted() {
-        return decline;
-    }
+    common_decline(g, d, Lent::Nothing, 0)?;
     if !has_form(number, form) {
-        return Decline::Register;
+        return Err(Decline::Register);
     }
     if !may_store(d, number) {
-        return Decline::Running;
+        return Err(Decline::Running);
     }
-    Decline::Accepted
+    Ok(())
 }
 
 // The device after a store to another register than NVMCON.
@@ -92,18 +75,9 @@ fn applied(d: Device, number: u32, w: u32) -> Device
         NVMDATA2 => e.nvmdata[2] = w,
         NVMDATA3 => e.nvmdata[3] = w,
         NVMSRCADDR => e.nvmsrcaddr = w,
-        Nvmpwp::NUMBER => {
-            let nvmpwp = Nvmpwp::new(merge(pwp_takes(d), w, d.nvmpwp.0));
-            e.nvmpwp = nvmpwp;
-        }
-        Nvmbwp::NUMBER => {
-            let nvmbwp = Nvmbwp::new(merge(bwp_takes(d), w, d.nvmbwp.0));
-            e.nvmbwp = nvmbwp;
-        }
-        Nvmcon2::NUMBER => {
-            let nvmcon2 = Nvmcon2::new(merge(con2_takes(d), w, d.nvmcon2.0));
-            e.nvmcon2 = nvmcon2;
-        }
+        Nvmpwp::NUMBER => e.nvmpwp = Nvmpwp(merge(pwp_takes(d), w, d.nvmpwp.0)),
+        Nvmbwp::NUMBER => e.nvmbwp = Nvmbwp(merge(bwp_takes(d), w, d.nvmbwp.0)),
+        Nvmcon2::NUMBER => e.nvmcon2 = Nvmcon2(merge(con2_takes(d), w, d.nvmcon2.0)),
         _ => {}
     }
     e
@@ -111,22 +85,20 @@ fn applied(d: Device, number: u32, w: u32) -> Device
 
 // A store that is not declined. No call of the device: its callers judge the declines first.
 #[tactic(auto, unfolding(crate::specs::Store::store_accepted_of))]
-pub fn store_accepted(g: Geometry, d: Device, number: u32, form: u32, value: u32) -> Answer
+pub fn store_accepted(g: Geometry, d: Device, number: u32, form: u32, value: u32) -> Outcome
     requires { InRange g }
-    ensures { result ≡ store_accepted_of g d number form value }
+    ensures { accepted result.device result.event ≡ store_accepted_of g d number form value }
 {
     let w = wanted(form, register(d, number), value);
     if number == Nvmcon::NUMBER {
         let l = con_store(g, d, w);
         let operands = l.operands;
-        return Answer {
-            decline: Decline::Accepted,
+        return Outcome {
             device: with_launched(with_con(d, l.nvmcon, 0, d.step), operands),
             event: l.event,
         };
     }
-    Answer {
-        decline: Decline::Accepted,
+    Outcome {
         device: applied(d, number, w),
         event: false,
     }
@@ -134,50 +106,32 @@ pub fn store_accepted(g: Geometry, d: Device, number: u32, form: u32, value: u32
 
 // A store of a form and a value to a register.
 #[tactic(auto, unfolding(crate::specs::Store::store_of))]
-pub fn store(g: Geometry, d: Device, number: u32, form: u32, value: u32) -> Answer
-    ensures { result ≡ store_of g d number form value }
+pub fn store(g: Geometry, d: Device, number: u32, form: u32, value: u32) -> Result<Outcome, Decline>
+    ensures { answer_from d result ≡ store_of g d number form value }
 {
-    let decline = store_decline(g, d, number, form);
-    if decline.is_accepted() {
-        return store_accepted(g, d, number, form, value);
-    }
-    Answer {
-        decline,
-        device: d,
-        event: false,
-    }
+    store_decline(g, d, number, form)?;
+    Ok(store_accepted(g, d, number, form, value))
 }
 
 #[tactic(auto, unfolding(crate::specs::Store::read_decline_of))]
-fn read_decline(g: Geometry, d: Device, number: u32) -> Decline
+fn read_decline(g: Geometry, d: Device, number: u32) -> Result<(), Decline>
     ensures { result ≡ read_decline_of g d number }
 {
-    let decline = common_decline(g, d, Lent::Nothing, 0);
-    if !decline.is_accepted() {
-        return decline;
-    }
+    common_decline(g, d, Lent::Nothing, 0)?;
     if Nvmcon2::NUMBER < number {
-        return Decline::Register;
+        return Err(Decline::Register);
     }
-    Decline::Accepted
+    Ok(())
 }
 
 // A read of a register: at key step 0 or 1 it changes nothing, at 2 or 3 it closes the key.
 #[tactic(auto, unfolding(crate::specs::Store::register_read_of))]
-pub fn register_read(g: Geometry, d: Device, number: u32) -> RegisterRead
-    ensures { result ≡ register_read_of g d number }
+pub fn register_read(g: Geometry, d: Device, number: u32) -> Result<RegisterValue, Decline>
+    ensures { register_read_from d result ≡ register_read_of g d number }
 {
-    let decline = read_decline(g, d, number);
-    if decline.is_accepted() {
-        return RegisterRead {
-            decline,
-            value: register(d, number),
-            device: with_con(d, d.nvmcon.0, key_after_read(d.keystep), d.step),
-        };
-    }
-    RegisterRead {
-        decline,
-        value: 0,
-        device: d,
-    }
+    read_decline(g, d, number)?;
+    Ok(RegisterValue {
+        value: register(d, number),
+        device: with_con(d, d.nvmcon.0, key_after_read(d.keystep), d.step),
+    })
 }

@@ -1,9 +1,10 @@
 // What a store asks for, and which fields of a register take it: each condition is judged on the device before the store.
 #![tactic(auto)]
 
-ghost use Rattle.std.specs.Prelude.{◌≡◌};
+ghost use Rattle.std.specs.Prelude.{◌≡◌, ◌+◌, ◌^◌, ◌<◌};
+ghost use Rattle.words.specs.Word.{pick, has_of};
 ghost use Rattle.register_fields.specs.Fields.{wanted_of, key_next_of, key_after_read_of, con_takes_of, pwp_takes_of};
-ghost use Rattle.register_fields.specs.Fields.{lower_takes_of, upper_takes_of, bwp_takes_of, keyed_takes_of, swaplock_takes_of, con2_takes_of};
+ghost use Rattle.register_fields.specs.Fields.{bwp_takes_of, keyed_takes_of, swaplock_takes_of, con2_takes_of};
 
 use device::numbers::{CLEAR, KEY1, KEY2, KEY3, PLAIN, SET};
 use device::record::Device;
@@ -14,16 +15,12 @@ use words::word::{clear, has};
 pub fn wanted(form: u32, old: u32, value: u32) -> u32
     ensures { result ≡ wanted_of form old value }
 {
-    if form == PLAIN {
-        return value;
+    match form {
+        PLAIN => value,
+        CLEAR => clear(old, value),
+        SET => old | value,
+        _ => old ^ value,
     }
-    if form == CLEAR {
-        return clear(old, value);
-    }
-    if form == SET {
-        return old | value;
-    }
-    old ^ value
 }
 
 // The key step after a store to NVMKEY.
@@ -31,22 +28,12 @@ pub fn wanted(form: u32, old: u32, value: u32) -> u32
 pub fn key_next(keystep: u32, value: u32) -> u32
     ensures { result ≡ key_next_of keystep value }
 {
-    if value == KEY1 {
-        return 1;
+    match (keystep, value) {
+        (_, KEY1) => 1,
+        (1, KEY2) => 2,
+        (2, KEY3) => 3,
+        _ => 0,
     }
-    if keystep == 1 {
-        if value == KEY2 {
-            return 2;
-        }
-        return 0;
-    }
-    if keystep == 2 {
-        if value == KEY3 {
-            return 3;
-        }
-        return 0;
-    }
-    0
 }
 
 // The key step after a register read.
@@ -54,10 +41,7 @@ pub fn key_next(keystep: u32, value: u32) -> u32
 pub fn key_after_read(keystep: u32) -> u32
     ensures { result ≡ key_after_read_of keystep }
 {
-    if keystep < 2 {
-        return keystep;
-    }
-    0
+    if keystep < 2 { keystep } else { 0 }
 }
 
 // The fields of NVMCON that take the wanted value.
@@ -68,16 +52,21 @@ pub fn con_takes(d: Device) -> u32
     if has(d.nvmcon.0, Nvmcon::WREN) {
         return Nvmcon::WREN;
     }
-    if has(d.nvmcon2.0, Nvmcon2::SWAPLOCK) {
-        return Nvmcon::WREN + Nvmcon::NVMOP;
-    }
-    if d.keystep != 3 {
+    if has(d.nvmcon2.0, Nvmcon2::SWAPLOCK) || d.keystep != 3 {
         return Nvmcon::WREN + Nvmcon::NVMOP;
     }
     Nvmcon::WREN + Nvmcon::NVMOP + Nvmcon::PFSWAP + Nvmcon::BFSWAP
 }
 
-// The fields of NVMPWP that take the wanted value. Where the lock bit is 0 none does, so it never rises.
+// A lock bit and the fields under it take the wanted value where the bit is 1: so it never rises.
+fn under_lock(value: u32, lock: u32, fields: u32) -> u32
+    requires { lock + fields < 2 ^ 32 }
+    ensures { result ≡ pick (has_of value lock) (lock + fields) 0 }
+{
+    if has(value, lock) { lock + fields } else { 0 }
+}
+
+// The fields of NVMPWP that take the wanted value.
 #[tactic(auto, unfolding(crate::specs::Fields::pwp_takes_of))]
 pub fn pwp_takes(d: Device) -> u32
     ensures { result ≡ pwp_takes_of d }
@@ -85,28 +74,7 @@ pub fn pwp_takes(d: Device) -> u32
     if d.keystep != 3 {
         return 0;
     }
-    if has(d.nvmpwp.0, Nvmpwp::PWPULOCK) {
-        return Nvmpwp::PWPULOCK + Nvmpwp::PWP;
-    }
-    0
-}
-
-fn lower_takes(d: Device) -> u32
-    ensures { result ≡ lower_takes_of d }
-{
-    if has(d.nvmbwp.0, Nvmbwp::LBWPULOCK) {
-        return Nvmbwp::LBWPULOCK + Nvmbwp::LBWP;
-    }
-    0
-}
-
-fn upper_takes(d: Device) -> u32
-    ensures { result ≡ upper_takes_of d }
-{
-    if has(d.nvmbwp.0, Nvmbwp::UBWPULOCK) {
-        return Nvmbwp::UBWPULOCK + Nvmbwp::UBWP;
-    }
-    0
+    under_lock(d.nvmpwp.0, Nvmpwp::PWPULOCK, Nvmpwp::PWP)
 }
 
 // The fields of NVMBWP that take the wanted value.
@@ -117,7 +85,8 @@ pub fn bwp_takes(d: Device) -> u32
     if d.keystep != 3 {
         return 0;
     }
-    lower_takes(d) + upper_takes(d)
+    under_lock(d.nvmbwp.0, Nvmbwp::LBWPULOCK, Nvmbwp::LBWP)
+        + under_lock(d.nvmbwp.0, Nvmbwp::UBWPULOCK, Nvmbwp::UBWP)
 }
 
 fn keyed_takes(d: Device) -> u32
@@ -133,9 +102,10 @@ fn swaplock_takes(d: Device) -> u32
     ensures { result ≡ swaplock_takes_of d }
 {
     if d.nvmcon2.0 / 64 % 4 == 3 {
-        return 0;
+        0
+    } else {
+        Nvmcon2::SWAPLOCK
     }
-    Nvmcon2::SWAPLOCK
 }
 
 // The fields of NVMCON2 that take the wanted value.

@@ -1,5 +1,6 @@
 -- A torn bit is the next step's or the old one, and device and comparison have one answer each: so one answer meets the sentences. Assumes nothing.
 use mathlib.Core.Path.{◌≡◌, refl, sym, ap, subst, ◌∙◌}
+use Rattle.std.specs.Prelude.{Ok, Err}
 use mathlib.Core.Bool.{Bool, true, false}
 use mathlib.Core.List.{List, [], ◌∷◌}
 use Prim.Native.Nat.{ℕ, ◌+◌, ◌-◌, ◌*◌, ◌%◌, ◌≤◌, ◌<◌}
@@ -12,13 +13,13 @@ use borrow.Author.Tests.{eqb-true, eq-eqb, ne_eqb, le-ltb, lt-ltb}
 use Rattle.words.specs.Word.{pick, bit}
 use Rattle.words.specs.Quad.{word_at}
 use Rattle.words.specs.declared.decline.Decline.{Decline}
-use Rattle.words.specs.Decline.{number_of, accepted_of, first_of}
+use Rattle.words.specs.Decline.{Verdict, number_of, accepted_of, first_of}
 use Rattle.words.proofs.Numbers.{numbers}
 use Rattle.words.proofs.PickLaws.{pick_same, pick_both}
 use Rattle.words.proofs.BitLaws.{equal_by_bits}
 use Rattle.words.proofs.QuadLaws.{put_torn}
 use Rattle.geometry.specs.declared.banks.Geometry.{Geometry}
-use Rattle.sequence.specs.declared.comparison.Comparison.{Comparison}
+use Rattle.sequence.specs.Comparison.{Comparison}
 use Rattle.sequence.specs.Sequence.{sequence_index_of}
 use Rattle.sequence.specs.Comparison.{reason_number_of, comparison, compare_of}
 use Rattle.sequence.specs.Reasons.{Reasons}
@@ -100,11 +101,11 @@ module _ (g : Geometry) (s : State) (sram : List ℕ) (kind : ℕ) (mask : List 
   number = number_of own.after.decline
 
   -- 1 to 3, and the kind after them
-  abbrev common : Decline
+  abbrev common : Verdict
   common = common_decline_of g s.device (lengths_of s) (length sram)
 
-  abbrev judged : Decline
-  judged = pick (ltb 2 kind) Decline.ResetKind Decline.Accepted
+  abbrev judged : Verdict
+  judged = pick (ltb 2 kind) (Err Decline.ResetKind) (Ok tt)
 
   abbrev torn : State
   torn = tear_of g s sram mask

@@ -1,15 +1,13 @@
 -- "Resets and start-up": the tear, and the device after a reset. Assumes nothing.
-use Rattle.std.specs.Prelude.{ℕ, ◌+◌, Bool, false, ◌&&◌, List, [], ◌∷◌, eqb, ltb, length, get_or}
+use Rattle.std.specs.Prelude.{ℕ, ◌+◌, Bool, false, ◌&&◌, List, [], ◌∷◌, eqb, ltb, length, get_or, Ok, Err, Result}
 use Rattle.std.specs.Int.Bits.{bit_or}
 use Rattle.words.specs.Word.{pick, merge_of, clear_of}
 use Rattle.words.specs.Quad.{word_at, quad_at, merge_quad_of}
 use Rattle.geometry.specs.declared.banks.Geometry.{Geometry}
 use Rattle.words.specs.declared.decline.Decline.{Decline}
-use Rattle.words.specs.Decline.{accepted_of, first_of}
-use Rattle.sequence.specs.declared.comparison.Reason.{Reason}
-use Rattle.sequence.specs.declared.comparison.Comparison.{Comparison}
+use Rattle.words.specs.Decline.{Verdict, accepted_of, first_of}
+use Rattle.sequence.specs.Comparison.{Reason, Comparison, reason_from, compare_of}
 use Rattle.sequence.specs.Sequence.{sequence_index_of}
-use Rattle.sequence.specs.Comparison.{compare_of}
 use Rattle.device.specs.declared.record.Device.{Device}
 use Rattle.device.specs.Registers.{WR, WREN, LVDERR, PFSWAP, BFSWAP, NVMERS, resets}
 use Rattle.device.specs.Builders.{power_on, with_con}
@@ -19,6 +17,7 @@ use Rattle.common_declines.specs.CommonDecline.{common_decline_of}
 use Rattle.flash.specs.declared.write.Write.{Write}
 use Rattle.flash.specs.Write.{written_of}
 use Rattle.flash.specs.Effect.{effect_of}
+use Rattle.resets.specs.declared.AfterReset.{AfterReset}
 use Rattle.device.specs.Numbers.{NVMCON, NVMPWP, NVMBWP, NVMCON2}
 
 -- "Kinds: 0 power-on, 1 brown-out, 2 other."
@@ -32,8 +31,8 @@ abbrev pub other_reset : ℕ
 other_reset = 2
 
 -- declines 1, 2, 3 and 7
-unfoldable pub reset_decline_of : Geometry → Device → ℕ → ℕ → ℕ → ℕ → Decline
-reset_decline_of g d one two sram kind = first_of (common_decline_of g d (one ∷ two ∷ []) sram) (pick (ltb other_reset kind) Decline.ResetKind Decline.Accepted)
+unfoldable pub reset_decline_of : Geometry → Device → ℕ → ℕ → ℕ → ℕ → Verdict
+reset_decline_of g d one two sram kind = first_of (common_decline_of g d (one ∷ two ∷ []) sram) (pick (ltb other_reset kind) (Err Decline.ResetKind) (Ok tt))
 
 -- "the four words of the torn mask choose, bit by bit, intended (1) or old (0). A step that would abort or hit a protected page tears nothing."
 abbrev pub torn_of : State → List ℕ → Write → Write
@@ -89,10 +88,10 @@ reset_device_of d kind swap =
 
 -- "BFSWAP is compared after the tear. A reset gives no event."
 abbrev pub restart_of : Geometry → State → ℕ → After
-restart_of g s kind = after Decline.Accepted (state (reset_device_of s.device kind (compared_of g s.one s.two)) s.one s.two) false
+restart_of g s kind = after (Ok tt) (state (reset_device_of s.device kind (compared_of g s.one s.two)) s.one s.two) false
 
 -- declines 1, 2, 3 and 7 of a reset of a state with a lent SRAM
-abbrev pub reset_answer_of : Geometry → State → List ℕ → ℕ → Decline
+abbrev pub reset_answer_of : Geometry → State → List ℕ → ℕ → Verdict
 reset_answer_of g s sram kind = reset_decline_of g s.device (length s.one) (length s.two) (length sram) kind
 
 -- what a reset leaves, with the reason of its comparison beside it
@@ -102,6 +101,11 @@ pub record Explained : Type 0 where
 
 abbrev pub explained : After → Reason → Explained
 explained a reason = record { after = a; reason = reason }
+
+-- in contracts: everything after a reset of this device by its result and the banks as they are then
+abbrev pub explained_from : Device → Result AfterReset Decline → List ℕ → List ℕ → Explained
+explained_from d (Ok r) one two = explained (after (Ok tt) (state r.device one two) false) (reason_from r.reason)
+explained_from d (Err e) one two = explained (after (Err e) (state d one two) false) Reason.NotCompared
 
 -- W-205: "Reset passes it on": the reason is that of the comparison after the tear; a declined reset has compared nothing (ours)
 unfoldable pub explained_of : Geometry → State → List ℕ → ℕ → List ℕ → Explained

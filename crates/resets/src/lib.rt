@@ -1,16 +1,18 @@
 // Resets: the tear of a running step, the registers by kind, the comparison of the banks.
 #![tactic(auto)]
 
-ghost use Rattle.std.specs.Prelude.{◌≡◌, true, false, length};
-ghost use Rattle.std.specs.Int.Bits.{bit_or};
-ghost use Rattle.words.specs.Word.{pick};
-ghost use Rattle.device.specs.Registers.{BFSWAP};
+ghost use Rattle.std.specs.Prelude.{◌≡◌, true, length, Ok, Err, MatchResult};
+ghost use Rattle.sequence.specs.Comparison.{comparison_from};
 ghost use Rattle.geometry.specs.Banks.{InRange, bank_words_of};
 ghost use Rattle.common_declines.specs.Possible.{possible_of};
 ghost use Rattle.flash.specs.Effect.{Runs, effect_of};
-ghost use Rattle.device.specs.State.{state, lent, after};
-ghost use Rattle.resets.specs.Reset.{reset_decline_of, torn_of, tear_of, comparison_of, reset_con_of, reset_device_of, explained, explained_of};
+ghost use Rattle.device.specs.State.{state, lent};
+ghost use Rattle.resets.specs.Kind.{kind_number_of};
+ghost use Rattle.resets.specs.Reset.{reset_decline_of, torn_of, tear_of, comparison_of, reset_con_of, reset_device_of, explained_from, explained_of};
 
+pub mod kind;
+
+use crate::kind::Kind;
 use common_declines::common_decline::common_decline;
 use device::builders::{no_operands, power_on, with_con, with_launched};
 use device::record::Device;
@@ -25,33 +27,28 @@ use words::decline::Decline;
 use words::quad::merge_quad;
 use words::word::{clear, has, merge};
 
-// Kinds of reset.
-pub const POWER_ON_RESET: u32 = 0;
-
-pub const BROWN_OUT_RESET: u32 = 1;
-
-pub const OTHER_RESET: u32 = 2;
-
-// The answer to a reset, with the reason of its comparison. Where it is declined the device and the banks are as before.
+// What a reset leaves of the device, with the reason of its comparison.
 #[derive(Clone, Copy)]
-pub struct Restarted {
-    pub decline: Decline,
+pub struct AfterReset {
     pub device: Device,
     pub reason: Reason,
 }
 
+// The kind of a reset that is not declined.
 #[tactic(auto, unfolding(crate::specs::Reset::reset_decline_of))]
-fn reset_decline(g: Geometry, d: Device, one: usize, two: usize, sram: usize, kind: u32) -> Decline
-    ensures { result ≡ reset_decline_of g d one two sram kind }
+fn reset_kind(
+    g: Geometry,
+    d: Device,
+    one: usize,
+    two: usize,
+    sram: usize,
+    kind: u32,
+) -> Result<Kind, Decline>
+    ensures { MatchResult result (λ k. (reset_decline_of g d one two sram kind ≡ Ok tt) × (kind ≡ kind_number_of k))
+        (λ e. reset_decline_of g d one two sram kind ≡ Err e) }
 {
-    let decline = common_decline(g, d, Lent::Banks(one, two), sram);
-    if !decline.is_accepted() {
-        return decline;
-    }
-    if OTHER_RESET < kind {
-        return Decline::ResetKind;
-    }
-    Decline::Accepted
+    common_decline(g, d, Lent::Banks(one, two), sram)?;
+    Kind::try_from(kind)
 }
 
 // The write of the next step as a cut tears it.
@@ -94,7 +91,7 @@ fn tear(g: Geometry, d: Device, one: &mut [u32], two: &mut [u32], sram: &[u32], 
 pub fn compared(g: Geometry, one: &[u32], two: &[u32]) -> Comparison
     requires in_range { InRange g }
     requires one_len { (length one.now ≡ bank_words_of g) × (length two.now ≡ bank_words_of g) }
-    ensures { result ≡ comparison_of g one.now two.now }
+    ensures { comparison_from result ≡ comparison_of g one.now two.now }
 {
     let i = sequence_index(g) as usize;
     compare(one[i], two[i])
@@ -102,51 +99,38 @@ pub fn compared(g: Geometry, one: &[u32], two: &[u32]) -> Comparison
 
 // NVMCON after a reset, but for BFSWAP.
 #[tactic(auto, unfolding(crate::specs::Reset::reset_con_of))]
-fn reset_con(d: Device, kind: u32) -> u32
-    ensures { result ≡ reset_con_of d kind }
+fn reset_con(d: Device, kind: Kind) -> u32
+    ensures { result ≡ reset_con_of d (kind_number_of kind) }
 {
-    if kind == POWER_ON_RESET {
-        return reset_value(Nvmcon::NUMBER);
-    }
     let kept = clear(
         d.nvmcon.0,
         Nvmcon::WR + Nvmcon::WREN + Nvmcon::PFSWAP + Nvmcon::BFSWAP,
     );
-    if kind != BROWN_OUT_RESET {
-        return kept;
+    match kind {
+        Kind::PowerOn => reset_value(Nvmcon::NUMBER),
+        Kind::BrownOut if has(d.nvmcon.0, Nvmcon::WR) => kept | Nvmcon::LVDERR,
+        Kind::BrownOut | Kind::Other => kept,
     }
-    if has(d.nvmcon.0, Nvmcon::WR) {
-        return kept | Nvmcon::LVDERR;
-    }
-    kept
-}
-
-fn swapped(con: u32, swap: bool) -> u32
-    ensures { result ≡ bit_or con (pick swap BFSWAP 0) }
-{
-    if swap {
-        return con | Nvmcon::BFSWAP;
-    }
-    con | 0
 }
 
 // The device after a reset.
 #[tactic(auto, unfolding(crate::specs::Reset::reset_device_of))]
-fn reset_device(d: Device, kind: u32, swap: bool) -> Device
-    ensures { result ≡ reset_device_of d kind swap }
+fn reset_device(d: Device, kind: Kind, swap: bool) -> Device
+    ensures { result ≡ reset_device_of d (kind_number_of kind) swap }
 {
-    let con = swapped(reset_con(d, kind), swap);
-    if kind == POWER_ON_RESET {
-        return with_con(power_on(), con, 0, 0);
+    let con = reset_con(d, kind) | if swap { Nvmcon::BFSWAP } else { 0 };
+    match kind {
+        Kind::PowerOn => with_con(power_on(), con, 0, 0),
+        Kind::BrownOut | Kind::Other => {
+            let kept = Device {
+                nvmpwp: Nvmpwp(reset_value(Nvmpwp::NUMBER)),
+                nvmbwp: Nvmbwp(reset_value(Nvmbwp::NUMBER)),
+                nvmcon2: Nvmcon2(merge(Nvmcon2::NVMERS, d.nvmcon2.0, reset_value(Nvmcon2::NUMBER))),
+                ..d
+            };
+            with_launched(with_con(kept, con, 0, 0), no_operands())
+        }
     }
-    let mut e = d;
-    let nvmpwp = Nvmpwp::new(reset_value(Nvmpwp::NUMBER));
-    let nvmbwp = Nvmbwp::new(reset_value(Nvmbwp::NUMBER));
-    let nvmcon2 = Nvmcon2::new(merge(Nvmcon2::NVMERS, d.nvmcon2.0, reset_value(Nvmcon2::NUMBER)));
-    e.nvmpwp = nvmpwp;
-    e.nvmbwp = nvmbwp;
-    e.nvmcon2 = nvmcon2;
-    with_launched(with_con(e, con, 0, 0), no_operands())
 }
 
 // A reset: kind 0 power-on, 1 brown-out, 2 other.
@@ -159,24 +143,14 @@ pub fn reset(
     sram: &[u32],
     kind: u32,
     mask: [u32; 4],
-) -> Restarted
-    ensures { explained (after result.decline (state result.device one.new two.new) false) result.reason
-        ≡ explained_of g (state d one.old two.old) sram.now kind mask }
+) -> Result<AfterReset, Decline>
+    ensures { explained_from d result one.new two.new ≡ explained_of g (state d one.old two.old) sram.now kind mask }
 {
-    let decline = reset_decline(g, d, one.len(), two.len(), sram.len(), kind);
-    if !decline.is_accepted() {
-        return Restarted {
-            decline,
-            device: d,
-            reason: Reason::NotCompared,
-        };
-    }
+    let kind = reset_kind(g, d, one.len(), two.len(), sram.len(), kind)?;
     tear(g, d, one, two, sram, mask);
     let c = compared(g, one, two);
-    let reason = c.reason;
-    Restarted {
-        decline: Decline::Accepted,
+    Ok(AfterReset {
         device: reset_device(d, kind, c.second),
-        reason,
-    }
+        reason: c.reason,
+    })
 }

@@ -8,8 +8,7 @@ use lib.Dec.{ltb}
 use lib.ListN.{length, set}
 use lib.Seq.{set_out}
 use borrow.Author.Tests.{ltb-true, eq-eqb}
-use Rattle.words.specs.declared.decline.Decline.{Decline}
-use Rattle.words.specs.Decline.{number_of, accepted_of}
+use Rattle.words.specs.Decline.{Verdict, number_of, accepted_of}
 use Rattle.words.proofs.BitLaws.{true_not_false}
 use Rattle.geometry.specs.declared.banks.Geometry.{Geometry}
 use Rattle.row_signs.specs.declared.sign.Sign.{Sign}
@@ -24,7 +23,7 @@ use Rattle.row.specs.Row.{RowState, Call, scheduled_of, answer_of, after_of, tur
 abbrev pub known_at : Geometry → RowState → Call → Known
 known_at g r c = known_of g c.k r.signs (length r.signs) r.queue r.last r.store c.image c.sram
 
-abbrev pub decline_at : Geometry → RowState → Call → Decline
+abbrev pub decline_at : Geometry → RowState → Call → Verdict
 decline_at g r c =
     row_decline_of g c.k r.signs (length r.signs) r.queue r.last (length r.store) (length c.image) (length c.sram)
 

@@ -1,6 +1,7 @@
 -- What declines 1, 2 and 19 tell where none applies: the queue's entries are records of the list, each once, and the banks lie in the store, apart.
 -- And back: where these hold, none applies. Assumes nothing.
 use Prim.Native.Nat.{ℕ, ◌+◌, ◌*◌, ◌/◌, ◌%◌, ◌≤◌, ◌<◌}
+use Rattle.std.specs.Prelude.{Ok, Err}
 use mathlib.Core.Path.{◌≡◌, refl, sym, ◌∙◌}
 use mathlib.Core.Logic.{inl, inr, ⊎_swap}
 use mathlib.Core.Bool.{Bool, true, false, not, ◌&&◌, ◌||◌, or-true}
@@ -126,10 +127,10 @@ module _ (g : Geometry) (k : ℕ) (signs : List Sign) (n : ℕ) (queue : Queue) 
   unfolding row_decline_of row_stands_of
   stands h =
       let row = row_stands_of g k signs n queue last store in
-      let declines = neither (lent_decline_of g (image ∷ []) sram) (pick row Decline.Accepted Decline.Row) h in
+      let declines = neither (lent_decline_of g (image ∷ []) sram) (pick row (Ok tt) (Err Decline.Row)) h in
       let lent = fits g (image ∷ []) sram declines.0 in
       let banks = banks_stand_of signs n (bank_words_of g) store in
-      let row-stands = (held row Decline.Accepted Decline.Row refl declines.1).0 in
+      let row-stands = (held row (Ok tt) (Err Decline.Row) refl declines.1).0 in
       let s0 = and_both (in_row_of n) (in_row_of k && (ltb last n && (queue_stands_of queue n && banks))) row-stands in
       let s1 = and_both (in_row_of k) (ltb last n && (queue_stands_of queue n && banks)) s0.1 in
       let s2 = and_both (ltb last n) (queue_stands_of queue n && banks) s1.1 in
@@ -157,7 +158,7 @@ module _ (g : Geometry) (k : ℕ) (signs : List Sign) (n : ℕ) (queue : Queue) 
 
 -- neither 1 nor 2 applies
 pub lent_accepted : (g : Geometry) (image sram : ℕ) → in_range_of g ≡ true → image ≡ bank_words_of g → sram ≤ most_sram
-    → lent_decline_of g (image ∷ []) sram ≡ Decline.Accepted
+    → lent_decline_of g (image ∷ []) sram ≡ Ok tt
 unfolding lent_decline_up_to lengths_fit_of
 lent_accepted g image sram listed words room = rw (listed, eq-eqb image (bank_words_of g) words, le-leb sram most_sram room) refl
 

@@ -1,9 +1,9 @@
 -- W-206, decline 19: "a list length, K or last served out of range, a queue that repeats a record or oversteps the list, or overlapping or overhanging
 -- banks". Assumes nothing.
-use Rattle.std.specs.Prelude.{ℕ, ◌+◌, ◌*◌, ◌/◌, ◌%◌, ◌≤◌, ◌<◌, ◌≡◌, ◌⊎◌, Bool, true, not, ◌&&◌, ◌||◌, List, [], ◌∷◌, eqb, leb, ltb, get_or}
+use Rattle.std.specs.Prelude.{ℕ, ◌+◌, ◌*◌, ◌/◌, ◌%◌, ◌≤◌, ◌<◌, ◌≡◌, ◌⊎◌, Bool, true, not, ◌&&◌, ◌||◌, List, [], ◌∷◌, eqb, leb, ltb, get_or, Ok, Err}
 use Rattle.words.specs.Word.{pick, all_below, any_below}
 use Rattle.words.specs.declared.decline.Decline.{Decline}
-use Rattle.words.specs.Decline.{first_of}
+use Rattle.words.specs.Decline.{Verdict, first_of}
 use Rattle.geometry.specs.declared.banks.Geometry.{Geometry}
 use Rattle.geometry.specs.Banks.{in_range_of, bank_words_of}
 use Rattle.geometry.specs.Lent.{most_sram, lent_decline_of}
@@ -52,9 +52,9 @@ row_stands_of g k signs n queue last store =
     in_row_of n && (in_row_of k && (ltb last n && (queue_stands_of queue n && banks_stand_of signs n (bank_words_of g) store)))
 
 -- declines 1 and 2, by the image and the SRAM, and then 19
-unfoldable pub row_decline_of : Geometry → ℕ → List Sign → ℕ → Queue → ℕ → ℕ → ℕ → ℕ → Decline
+unfoldable pub row_decline_of : Geometry → ℕ → List Sign → ℕ → Queue → ℕ → ℕ → ℕ → ℕ → Verdict
 row_decline_of g k signs n queue last store image sram =
-    first_of (lent_decline_of g (image ∷ []) sram) (pick (row_stands_of g k signs n queue last store) Decline.Accepted Decline.Row)
+    first_of (lent_decline_of g (image ∷ []) sram) (pick (row_stands_of g k signs n queue last store) (Ok tt) (Err Decline.Row))
 
 -- ---- the same as facts (`stands` of proofs/JudgeLaws)
 -- two banks of so many words do not overlap

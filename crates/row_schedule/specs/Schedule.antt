@@ -1,8 +1,7 @@
 -- W-206: one call for a row of signs. Assumes nothing.
-use Rattle.std.specs.Prelude.{ℕ, Bool, true, false, List, ltb, length}
+use Rattle.std.specs.Prelude.{ℕ, Bool, true, false, List, ltb, length, Ok}
 use Rattle.words.specs.Word.{pick}
-use Rattle.words.specs.declared.decline.Decline.{Decline}
-use Rattle.words.specs.Decline.{number_of, accepted_of}
+use Rattle.words.specs.Decline.{Verdict, number_of, accepted_of}
 use Rattle.geometry.specs.declared.banks.Geometry.{Geometry}
 use Rattle.device.specs.Record.{running}
 use Rattle.row_signs.specs.declared.sign.Sign.{Sign}
@@ -42,16 +41,16 @@ abbrev pub scheduling : ℕ → Sign → List ℕ → ScheduleAnswer → Schedul
 scheduling number sign store answer = record { number = number; sign = sign; store = store; answer = answer }
 
 -- beside a decline queue and last served are as handed over; it is not idle, the number served is 0, and there is no event (ours)
-abbrev pub declined : Decline → Queue → ℕ → ScheduleAnswer
+abbrev pub declined : Verdict → Queue → ℕ → ScheduleAnswer
 declined decline queue last = record { decline = number_of decline; idle = false; served = 0; event = false; queue = queue; last = last }
 
 -- "With nobody to serve the call says idle": the last served stays; the number served is 0, and there is no event (ours)
 abbrev pub idle : Queue → ℕ → ScheduleAnswer
-idle queue last = record { decline = number_of Decline.Accepted; idle = true; served = 0; event = false; queue = queue; last = last }
+idle queue last = record { decline = number_of (Ok tt); idle = true; served = 0; event = false; queue = queue; last = last }
 
 -- a sign was served, with the event of its turn
 abbrev pub served : ℕ → Bool → Queue → ScheduleAnswer
-served number event queue = record { decline = number_of Decline.Accepted; idle = false; served = number; event = event; queue = queue; last = number }
+served number event queue = record { decline = number_of (Ok tt); idle = false; served = number; event = event; queue = queue; last = number }
 
 -- "A call does one turn for one sign."
 abbrev pub served_sign : ℕ → SignTurning → Queue → Scheduling

@@ -7,7 +7,7 @@ use Rattle.words.specs.Decline.{accepted_of}
 use Rattle.geometry.specs.declared.banks.Geometry.{Geometry}
 use Rattle.geometry.specs.Banks.{bank_words_of}
 use Rattle.device.specs.Record.{running}
-use Rattle.update.specs.declared.turn.TurnEffect.{TurnEffect}
+use Rattle.update.specs.Answers.{TurnEffect}
 use Rattle.update.specs.Turn.{Turning, effected_of}
 use Rattle.row_signs.specs.declared.sign.Sign.{Sign}
 use Rattle.row_turn.specs.SignTurn.{sign_state_of, sign_turn_of, look_in, look_of, put_write_of, sign_turning, sign_turning_in, sign_turning_of}

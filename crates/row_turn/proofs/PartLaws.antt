@@ -15,7 +15,7 @@ use Rattle.geometry.specs.Banks.{bank_words_of}
 use Rattle.device.specs.State.{state}
 use Rattle.flash.specs.declared.write.Write.{Write}
 use Rattle.flash.specs.Write.{Fits}
-use Rattle.update.specs.declared.turn.TurnEffect.{TurnEffect}
+use Rattle.update.specs.Answers.{TurnEffect}
 use Rattle.update.specs.Turn.{effected_of, turn_of}
 use Rattle.row_signs.specs.declared.sign.Sign.{Sign}
 use Rattle.row_turn.specs.SignTurn.{part_of, put_write_of, Lies}

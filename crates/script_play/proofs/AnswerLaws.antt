@@ -10,9 +10,8 @@ use lib.ListN.{length}
 use Rattle.words.proofs.PickLaws.{and_both, all-below}
 use Rattle.words.proofs.BitLaws.{true_not_false}
 use Rattle.geometry.specs.declared.banks.Geometry.{Geometry}
-use Rattle.words.specs.declared.decline.Decline.{Decline}
 use Rattle.geometry.specs.Banks.{in_range_of}
-use Rattle.words.specs.Decline.{accepted_of}
+use Rattle.words.specs.Decline.{Verdict, accepted_of}
 use Rattle.common_declines.specs.CommonDecline.{common_decline_of}
 use Rattle.common_declines.proofs.CommonDeclineLaws.{ready}
 use Rattle.device.specs.State.{State}
@@ -29,7 +28,7 @@ neither_declines : (g : Geometry) (sram : List ℕ) (s : State) (script : List �
 unfolding play_decline_of
 neither_declines g sram s script = go (accepted_of common) refl (is_script_of script) refl
   where
-    common : Decline
+    common : Verdict
     common = common_decline_of g s.device (length s.one ∷ length s.two ∷ []) (length sram)
 
     go : (a : Bool) → accepted_of common ≡ a → (b : Bool) → is_script_of script ≡ b → accepted_of (decline_of g sram s script) ≡ true

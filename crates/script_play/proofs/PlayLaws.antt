@@ -1,6 +1,7 @@
 -- What a play prints: each record's answer has one digit, so the length of the output is known before it is played.
 -- Assumes nothing.
 use mathlib.Core.Path.{◌≡◌, refl, sym, ap, ◌∙◌}
+use Rattle.std.specs.Prelude.{Ok}
 use mathlib.Core.Bool.{Bool, true, false}
 use Prim.Native.Nat.{ℕ, zero, suc, ◌+◌, ◌-◌, ◌^◌, ◌≤◌, ◌<◌}
 use native.Mathlib.Omega.{arith}
@@ -9,7 +10,6 @@ use mathlib.Core.List.{List, ◌++◌}
 use lib.ListN.{length, length-append}
 use lib.Seq.{sets}
 use Rattle.geometry.specs.declared.banks.Geometry.{Geometry}
-use Rattle.words.specs.declared.decline.Decline.{Decline}
 use Rattle.words.specs.Decline.{number_of, accepted_of}
 use Rattle.device.specs.State.{State, After}
 use Rattle.text.specs.Buffer.{saturated_of}
@@ -49,7 +49,7 @@ play-length g sram s script buffer = go (accepted_of (decline_of g sram s script
 
 -- where the play is accepted they are those of so many lines
 pub length-accepted : (g : Geometry) (sram : List ℕ) (s : State) (script : List ℕ) → accepted_of (decline_of g sram s script) ≡ true
-    → play_length_of g sram s script ≡ record { decline = Decline.Accepted; bytes = saturated_of (lines_length_of (records_of script)) }
+    → play_length_of g sram s script ≡ record { decline = Ok tt; bytes = saturated_of (lines_length_of (records_of script)) }
 unfolding play_of play_length_of
 length-accepted g sram s script e = rw (e, lines-length g sram s script (records_of script))
 
@@ -99,7 +99,7 @@ playing_next g sram start script before s out bytes i p small r er a ea out' eo 
 
 -- a play that has ended
 pub playing_ends : (g : Geometry) (sram : List ℕ) (start : State) (script before : List ℕ) (s : State) (out : List ℕ) (bytes : ℕ)
-    → Playing g sram start script before s out bytes (records_of script) → playback Decline.Accepted bytes s out ≡ played_of g sram start script before
+    → Playing g sram start script before s out bytes (records_of script) → playback (Ok tt) bytes s out ≡ played_of g sram start script before
 playing_ends g sram start script before s out bytes p =
     rw (
       p.reached,

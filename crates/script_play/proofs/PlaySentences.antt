@@ -1,5 +1,6 @@
 -- A script is played record by record in one way, and the declines are told by two tests. Assumes nothing.
 use mathlib.Core.Path.{◌≡◌, refl, sym, ap, ap₂, subst, ◌∙◌}
+use Rattle.std.specs.Prelude.{Ok, Err}
 use mathlib.Core.Bool.{Bool, true, false}
 use mathlib.Core.List.{List, [], ◌∷◌, ◌++◌}
 use Prim.Native.Nat.{ℕ, zero, suc, ◌+◌, ◌/◌}
@@ -9,7 +10,7 @@ use borrow.Author.Tests.{eq-eqb, ne_eqb, eqb-true}
 use lib.ListN.{length}
 use Rattle.words.specs.Word.{pick}
 use Rattle.words.specs.declared.decline.Decline.{Decline}
-use Rattle.words.specs.Decline.{number_of, accepted_of, first_of}
+use Rattle.words.specs.Decline.{Verdict, number_of, accepted_of, first_of}
 use Rattle.words.proofs.Numbers.{numbers}
 use Rattle.words.proofs.BitLaws.{true_not_false}
 use Rattle.text.proofs.LineSentences.{lines_fixed}
@@ -70,17 +71,17 @@ module _ (g : Geometry) (sram : List ℕ) (s : State) (script buffer : List ℕ)
   abbrev lengths : List ℕ
   lengths = length s.one ∷ length s.two ∷ []
 
-  abbrev common : Decline
+  abbrev common : Verdict
   common = common_decline_of g s.device lengths (length sram)
 
-  abbrev known : Decline
-  known = pick (is_script_of script) Decline.Accepted Decline.Script
+  abbrev known : Verdict
+  known = pick (is_script_of script) (Ok tt) (Err Decline.Script)
 
   same_number : number_of own.decline ≡ number_of (first_of common known)
   unfolding play_of play_decline_of
   same_number = go (first_of common known) (accepted_of (first_of common known)) refl
     where
-      go : (d : Decline) (t : Bool) → accepted_of d ≡ t
+      go : (d : Verdict) (t : Bool) → accepted_of d ≡ t
           → number_of (pick t (played_of g sram s script buffer) (playback d 0 s buffer)).decline ≡ number_of d
       go d true on = sym (eqb-true _ _ on)
       go d false off = refl

@@ -1,11 +1,11 @@
 -- A play: what each record does, and what is printed for it. Assumes nothing.
-use Rattle.std.specs.Prelude.{ℕ, zero, suc, List, [], ◌∷◌, ◌++◌, eqb, length}
+use Rattle.std.specs.Prelude.{ℕ, zero, suc, List, [], ◌∷◌, ◌++◌, eqb, length, Ok, Err}
 use Rattle.words.specs.Word.{pick}
 use Rattle.text.specs.Buffer.{put_first, saturated_of}
 use Rattle.text.specs.Lines.{line_of}
 use Rattle.geometry.specs.declared.banks.Geometry.{Geometry}
 use Rattle.words.specs.declared.decline.Decline.{Decline}
-use Rattle.words.specs.Decline.{number_of, accepted_of, first_of}
+use Rattle.words.specs.Decline.{Verdict, number_of, accepted_of, first_of}
 use Rattle.device.specs.declared.record.Device.{Device}
 use Rattle.common_declines.specs.CommonDecline.{common_decline_of}
 use Rattle.device.specs.State.{State, After}
@@ -31,22 +31,22 @@ lines_of g sram s script (suc i) =
     lines_of g sram s script i ++ record_line_of i (record_after_of g sram (state_of g sram s script i) (record_of script i))
 
 -- declines 1, 2, 3 and 14: "The lowest number that applies is returned"
-unfoldable pub play_decline_of : Geometry → Device → ℕ → ℕ → ℕ → List ℕ → Decline
+unfoldable pub play_decline_of : Geometry → Device → ℕ → ℕ → ℕ → List ℕ → Verdict
 play_decline_of g d one two sram script =
-    first_of (common_decline_of g d (one ∷ two ∷ []) sram) (pick (is_script_of script) Decline.Accepted Decline.Script)
+    first_of (common_decline_of g d (one ∷ two ∷ []) sram) (pick (is_script_of script) (Ok tt) (Err Decline.Script))
 
 -- so of a play on a state and a lent SRAM
-abbrev pub decline_of : Geometry → List ℕ → State → List ℕ → Decline
+abbrev pub decline_of : Geometry → List ℕ → State → List ℕ → Verdict
 decline_of g sram s script = play_decline_of g s.device (length s.one) (length s.two) (length sram) script
 
 -- everything after a play: the answer, the bytes of the whole output, the state, the buffer
 pub record Playback : Type 0 where
-  pub decline : Decline
+  pub decline : Verdict
   pub bytes : ℕ
   pub after : State
   pub buffer : List ℕ
 
-abbrev pub playback : Decline → ℕ → State → List ℕ → Playback
+abbrev pub playback : Verdict → ℕ → State → List ℕ → Playback
 playback decline bytes after buffer = record { decline = decline; bytes = bytes; after = after; buffer = buffer }
 
 -- a script that is played: every record in its order. The buffer takes as much of the output's front as fits, and the bytes are those
@@ -54,7 +54,7 @@ playback decline bytes after buffer = record { decline = decline; bytes = bytes;
 abbrev pub played_of : Geometry → List ℕ → State → List ℕ → List ℕ → Playback
 played_of g sram s script buffer =
     let output = lines_of g sram s script (records_of script) in
-    playback Decline.Accepted (saturated_of (length output)) (state_of g sram s script (records_of script)) (put_first output buffer)
+    playback (Ok tt) (saturated_of (length output)) (state_of g sram s script (records_of script)) (put_first output buffer)
 
 -- a play; where it is declined "device and lent memory keep their contents", and so the buffer; the bytes are 0 (ours)
 unfoldable pub play_of : Geometry → List ℕ → State → List ℕ → List ℕ → Playback

@@ -66,13 +66,10 @@ fn play_accepted(
 {
     let mut device = d;
     let mut bytes = 0;
-    let mut i = 0;
-    while i < script.len() / 8 {
+    for i in 0..script.len() / 8 {
         let a = play_record(g, device, one, two, sram, record_at(script, i));
-        let decline = a.decline;
         device = a.device;
-        bytes = write_line(out, bytes, i, decline.number(), device.nvmcon.0, a.event);
-        i += 1;
+        bytes = write_line(out, bytes, i, a.decline.number(), device.nvmcon.0, a.event);
     }
     Played {
         decline: Decline::Accepted,

@@ -1,6 +1,7 @@
 -- What the play program prints: it is the play after a power-on, which no decline but 14 meets, and its buffer has room.
 -- Assumes nothing.
 use mathlib.Core.Path.{◌≡◌, refl, sym}
+use Rattle.std.specs.Prelude.{Ok, Err}
 use mathlib.Core.Bool.{Bool, true, false}
 use mathlib.Core.List.{List, [], ◌∷◌}
 use Prim.Native.Nat.{ℕ, ◌≤◌, ◌<◌}
@@ -44,7 +45,7 @@ abbrev played : List ℕ → List ℕ → Playback
 played script buffer = play_of smallest [] start_of script buffer
 
 -- none of declines 1, 2 and 3 applies
-pub start_opens : common_decline_of smallest power_on (length first_bank ∷ length erased_bank ∷ []) 0 ≡ Decline.Accepted
+pub start_opens : common_decline_of smallest power_on (length first_bank ∷ length erased_bank ∷ []) 0 ≡ Ok tt
 unfolding in_range_up_to listed_of
 start_opens =
     opens smallest power_on (length first_bank ∷ length erased_bank ∷ []) 0 refl (refl, (refl, tt)) (omega arith)
@@ -55,7 +56,7 @@ script_played : (script buffer : List ℕ) → is_script_of script ≡ true → 
 unfolding play_of play_decline_of
 script_played script buffer e = simp (start_opens, e)
 
-not_script : (script buffer : List ℕ) → is_script_of script ≡ false → played script buffer ≡ playback Decline.Script 0 start_of buffer
+not_script : (script buffer : List ℕ) → is_script_of script ≡ false → played script buffer ≡ playback (Err Decline.Script) 0 start_of buffer
 unfolding play_of play_decline_of
 not_script script buffer e = simp (start_opens, e)
 

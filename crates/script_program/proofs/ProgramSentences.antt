@@ -1,5 +1,6 @@
 -- What is no script or too long prints the line 14, every other what a play on the one bench prints. Assumes nothing.
 use mathlib.Core.Path.{◌≡◌, refl, sym, ap, ◌∙◌}
+use Rattle.std.specs.Prelude.{Ok}
 use mathlib.Core.Bool.{Bool, true, false}
 use mathlib.Core.List.{List, [], ◌∷◌}
 use Prim.Native.Nat.{ℕ, ◌/◌, ◌≤◌, ◌<◌}
@@ -10,7 +11,6 @@ use lib.ListN.{length, get_or-replicate}
 use lib.Seq.{ext_get_or, get_or-set_other}
 use Rattle.words.specs.Word.{all_ones}
 use Rattle.words.specs.Quad.{word_at}
-use Rattle.words.specs.declared.decline.Decline.{Decline}
 use Rattle.words.specs.Decline.{accepted_of}
 use Rattle.words.proofs.BitLaws.{true_not_false}
 use Rattle.words.proofs.CaseLaws.{or_other}
@@ -70,11 +70,11 @@ module _ (s : State) (b : Bench s) where
   unfolding explained_of
   restarted = go (accepted_of (reset_answer_of smallest s [] 0)) refl b.power_on_lem
     where
-      go : (t : Bool) → accepted_of (reset_answer_of smallest s [] 0) ≡ t → reset_of smallest s [] 0 mask ≡ after Decline.Accepted s false
+      go : (t : Bool) → accepted_of (reset_answer_of smallest s [] 0) ≡ t → reset_of smallest s [] 0 mask ≡ after (Ok tt) s false
           → (restart_of smallest torn 0).state ≡ s
       go true on e = ap (λ (a : After). a.state) (rw (on, reset_of) at e)
       go false off e =
-          let answer : reset_answer_of smallest s [] 0 ≡ Decline.Accepted = ap (λ (a : After). a.decline) (rw (off, reset_of) at e) in
+          let answer : reset_answer_of smallest s [] 0 ≡ Ok tt = ap (λ (a : After). a.decline) (rw (off, reset_of) at e) in
           absurd (true_not_false (sym (ap accepted_of answer) ∙ off))
 
   same_device : s.device ≡ power_on

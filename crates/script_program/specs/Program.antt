@@ -1,5 +1,5 @@
 -- What the play program prints. Assumes nothing.
-use Rattle.std.specs.Prelude.{ℕ, List, [], ltb, length, set, replicate}
+use Rattle.std.specs.Prelude.{ℕ, List, [], ltb, length, set, replicate, Err}
 use Rattle.words.specs.Word.{pick, all_ones}
 use Rattle.text.specs.Buffer.{put_first}
 use Rattle.text.specs.Lines.{line_feed, decimal_of}
@@ -34,7 +34,7 @@ longest = 65536
 
 -- "the line 14"
 abbrev pub decline_line : List ℕ
-decline_line = decimal_of (number_of Decline.Script) line_feed
+decline_line = decimal_of (number_of (Err Decline.Script)) line_feed
 
 -- what is printed for a script
 unfoldable pub printed_of : List ℕ → List ℕ

@@ -1,7 +1,6 @@
 -- What the play program prints, by the numbers of the paper. Assumes nothing.
-use Rattle.std.specs.Prelude.{ℕ, ◌/◌, ◌≤◌, ◌<◌, ◌≡◌, false, List, [], ◌∷◌, length}
+use Rattle.std.specs.Prelude.{ℕ, ◌/◌, ◌≤◌, ◌<◌, ◌≡◌, false, List, [], ◌∷◌, length, Ok}
 use Rattle.words.specs.Quad.{word_at}
-use Rattle.words.specs.declared.decline.Decline.{Decline}
 use Rattle.device.specs.State.{State, after}
 use Rattle.resets.specs.Reset.{reset_of}
 use Rattle.script_format.specs.ScriptSentences.{Script}
@@ -16,7 +15,7 @@ pub record Bench (s : State) : Type 0 where
   pub first : (w : ℕ) → w < 64 → (w ≡ 28 → ⊥) → word_at s.one w ≡ 0xFFFF_FFFF
   pub other : (w : ℕ) → w < 64 → word_at s.two w ≡ 0xFFFF_FFFF
   -- a power-on is accepted and leaves it as it is
-  pub power_on_lem : reset_of (record { q = 1; b = 1; p = 1 }) s [] 0 (0 ∷ 0 ∷ 0 ∷ 0 ∷ []) ≡ after Decline.Accepted s false
+  pub power_on_lem : reset_of (record { q = 1; b = 1; p = 1 }) s [] 0 (0 ∷ 0 ∷ 0 ∷ 0 ∷ []) ≡ after (Ok tt) s false
 
 pub record ProgramSentences : Type 0 where
   -- "Under decline 14, or with more than 65,536 bytes, the program prints only the line 14.": "14" and a line feed

@@ -1,6 +1,7 @@
 -- What a record answers: a number of one digit always, and 0, 4, 5 or 6 on a possible device over banks of the geometry's length.
 -- Assumes nothing.
 use mathlib.Core.Path.{◌≡◌, refl, sym}
+use Rattle.std.specs.Prelude.{Ok, Err}
 use mathlib.Core.Bool.{Bool, true, false}
 use mathlib.Core.List.{List, [], ◌∷◌}
 use mathlib.Core.Logic.{◌⊎◌, inl, inr}
@@ -15,14 +16,14 @@ use Rattle.words.proofs.BitLaws.{true_not_false}
 use Rattle.geometry.specs.declared.banks.Geometry.{Geometry}
 use Rattle.words.specs.declared.decline.Decline.{Decline}
 use Rattle.geometry.specs.Banks.{in_range_of}
-use Rattle.words.specs.Decline.{number_of, accepted_of}
+use Rattle.words.specs.Decline.{Verdict, number_of, accepted_of}
 use Rattle.geometry.specs.Lent.{lengths_fit_of, lent_decline_of, lent_decline_up_to}
 use Rattle.device.specs.declared.record.Device.{Device}
 use Rattle.device.specs.Record.{running}
 use Rattle.common_declines.specs.Possible.{possible_of}
 use Rattle.common_declines.specs.CommonDecline.{common_decline_of}
 use Rattle.common_declines.proofs.CommonDeclineLaws.{opens}
-use Rattle.device.specs.declared.answer.Answer.{Answer}
+use Rattle.device.specs.Answer.{Answer}
 use Rattle.register_access.specs.Store.{has_form_of, may_store_of, store_decline_of, store_accepted_of, store_of}
 use Rattle.flash.specs.Step.{step_decline_of, step_of}
 use Rattle.resets.specs.Reset.{reset_decline_of, Explained, explained_of, reset_of}
@@ -34,8 +35,8 @@ use Rattle.script_record.specs.Record.{mask_zero, record_after_of}
 
 -- ---- what holds of every answer that a call can give holds of the call's answer
 
-module _ (P : Decline → Type 0) (g : Geometry) (d : Device) (accepted : P Decline.Accepted) where
-  store-answer : (r form value : ℕ) → P (common_decline_of g d [] 0) → P Decline.Register → P Decline.Running → P (store_of g d r form value).decline
+module _ (P : Verdict → Type 0) (g : Geometry) (d : Device) (accepted : P (Ok tt)) where
+  store-answer : (r form value : ℕ) → P (common_decline_of g d [] 0) → P (Err Decline.Register) → P (Err Decline.Running) → P (store_of g d r form value).decline
   unfolding store_of store_accepted_of store_decline_of
   store-answer r form value common register run =
       pick_both (λ (a : Answer). P a.decline) (accepted_of (store_decline_of g d r form))
@@ -44,7 +45,7 @@ module _ (P : Decline → Type 0) (g : Geometry) (d : Device) (accepted : P Decl
       (pick_both P (has_form_of r form) (pick_both P (may_store_of d r) accepted run) register)
       common)
 
-  step-answer : (one two sram : List ℕ) → P (common_decline_of g d (length one ∷ length two ∷ []) (length sram)) → P Decline.Idle
+  step-answer : (one two sram : List ℕ) → P (common_decline_of g d (length one ∷ length two ∷ []) (length sram)) → P (Err Decline.Idle)
       → P (step_of g (state d one two) sram).decline
   unfolding step_of step_decline_of
   step-answer one two sram common idle =
@@ -52,7 +53,7 @@ module _ (P : Decline → Type 0) (g : Geometry) (d : Device) (accepted : P Decl
       (pick_both P (accepted_of (common_decline_of g d (length one ∷ length two ∷ []) (length sram))) (pick_both P (running d) accepted idle) common)
 
   reset-answer : (one two sram : List ℕ) (kind : ℕ) (mask : List ℕ) → P (common_decline_of g d (length one ∷ length two ∷ []) (length sram))
-      → P (pick (ltb 2 kind) Decline.ResetKind Decline.Accepted) → P (reset_of g (state d one two) sram kind mask).decline
+      → P (pick (ltb 2 kind) (Err Decline.ResetKind) (Ok tt)) → P (reset_of g (state d one two) sram kind mask).decline
   unfolding explained_of reset_decline_of
   reset-answer one two sram kind mask common known =
       pick_both (λ (e : Explained). P e.after.decline) (accepted_of (reset_decline_of g d (length one) (length two) (length sram) kind)) accepted
@@ -60,7 +61,7 @@ module _ (P : Decline → Type 0) (g : Geometry) (d : Device) (accepted : P Decl
 
 -- ---- one digit
 
-abbrev OneDigit : Decline → Type 0
+abbrev OneDigit : Verdict → Type 0
 OneDigit d = number_of d < 10
 
 common_decline_digit : (g : Geometry) (d : Device) (lengths : List ℕ) (sram : ℕ) → OneDigit (common_decline_of g d lengths sram)
@@ -88,7 +89,7 @@ answer_digit g sram s r a e = rw e (record_digit g sram s r)
 -- ---- 0, 4, 5 or 6
 
 -- the answers that a record gets in a play
-abbrev pub RecordAnswer : Decline → Type 0
+abbrev pub RecordAnswer : Verdict → Type 0
 RecordAnswer d = (number_of d ≡ 0) ⊎ ((number_of d ≡ 4) ⊎ ((number_of d ≡ 5) ⊎ (number_of d ≡ 6)))
 
 picked : (t x : Bool) → pick t x false ≡ true → x ≡ true
@@ -108,7 +109,7 @@ pub record_answer : (g : Geometry) (sram : List ℕ) (s : State) (r : Record) �
 unfolding record_after_of
 record_answer g sram s r listed room sound = go (eqb r.kind 0) refl (eqb r.kind 1) refl
   where
-    none : RecordAnswer Decline.Accepted
+    none : RecordAnswer (Ok tt)
     none = inl refl
 
     alone : RecordAnswer (common_decline_of g s.device [] 0)

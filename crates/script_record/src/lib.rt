@@ -2,16 +2,18 @@
 #![tactic(auto)]
 
 ghost use Rattle.std.specs.Prelude.{◌≡◌};
+ghost use Rattle.device.specs.Answer.{answer_from};
 ghost use Rattle.device.specs.State.{state, leaves};
 ghost use Rattle.script_record.specs.Record.{record_after_of};
 
-use device::answer::Answer;
+use device::outcome::Outcome;
 use device::record::Device;
 use flash::step::step;
 use geometry::banks::Geometry;
 use register_access::store;
 use resets::reset;
 use script_format::Record;
+use words::decline::Decline;
 
 // Plays one record.
 #[tactic(auto, unfolding(crate::specs::Record::record_after_of))]
@@ -22,21 +24,18 @@ pub fn play_record(
     two: &mut [u32],
     sram: &[u32],
     r: Record,
-) -> Answer
-    ensures { leaves result one.new two.new ≡ record_after_of g sram.now (state d one.old two.old) r }
+) -> Result<Outcome, Decline>
+    ensures { leaves (answer_from d result) one.new two.new ≡ record_after_of g sram.now (state d one.old two.old) r }
 {
-    if r.kind == 0 {
-        return store(g, d, r.number, r.form, r.value);
-    }
-    if r.kind == 1 {
-        return step(g, d, one, two, sram);
-    }
-    let a = reset(g, d, one, two, sram, r.number, [0; 4]);
-    let decline = a.decline;
-    let device = a.device;
-    Answer {
-        decline,
-        device,
-        event: false,
+    match r.kind {
+        0 => store(g, d, r.number, r.form, r.value),
+        1 => step(g, d, one, two, sram),
+        _ => {
+            let after = reset(g, d, one, two, sram, r.number, [0; 4])?;
+            Ok(Outcome {
+                device: after.device,
+                event: false,
+            })
+        }
     }
 }

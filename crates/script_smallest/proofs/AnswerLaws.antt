@@ -1,5 +1,6 @@
 -- Which decline the call gives, and where: 1, 2, 3, 14, 20, 21 in this order. Assumes nothing.
 use Prim.Native.Nat.{ℕ, ◌<◌}
+use Rattle.std.specs.Prelude.{Ok, Err}
 use mathlib.Core.Path.{◌≡◌, refl, sym, ap, ◌∙◌}
 use mathlib.Core.Bool.{Bool, true, false, ◌&&◌}
 use mathlib.Core.List.{List, [], ◌∷◌}
@@ -11,7 +12,7 @@ use Rattle.words.specs.Word.{pick}
 use Rattle.words.proofs.BitLaws.{true_not_false}
 use Rattle.words.proofs.PickLaws.{pick_both}
 use Rattle.words.specs.declared.decline.Decline.{Decline}
-use Rattle.words.specs.Decline.{number_of, accepted_of, first_of}
+use Rattle.words.specs.Decline.{Verdict, number_of, accepted_of, first_of}
 use Rattle.geometry.specs.declared.banks.Geometry.{Geometry}
 use Rattle.geometry.specs.Banks.{in_range_of, bank_words_of}
 use Rattle.geometry.specs.Lent.{most_sram, lengths_fit_of, lent_decline_up_to, lent_decline_of, LentDeclines}
@@ -28,18 +29,18 @@ use Rattle.script_smallest.specs.SmallestScripts.{lent_of, Playable, Declines}
 use Rattle.script_smallest.proofs.ShowLaws.{gives_shows, not_shown}
 
 -- what holds of each answer that can be given before a record is played holds of the one that is
-pub one_of_six : (P : Decline → Type 0) (g : Geometry) (s : State) (sram : ℕ) (x : List ℕ) (one two result : ℕ)
-    → P Decline.Accepted → P Decline.Geometry → P Decline.Length → P Decline.Device → P Decline.Script → P Decline.Records
+pub one_of_six : (P : Verdict → Type 0) (g : Geometry) (s : State) (sram : ℕ) (x : List ℕ) (one two result : ℕ)
+    → P (Ok tt) → P (Err Decline.Geometry) → P (Err Decline.Length) → P (Err Decline.Device) → P (Err Decline.Script) → P (Err Decline.Records)
     → P (unplayed_decline_of g s sram x one two result)
 unfolding unplayed_decline_of common_decline_of lent_decline_up_to
 one_of_six P g s sram x one two result accepted geometry length-differs device script records =
     first (lent_decline_of g (length s.one ∷ length s.two ∷ []) sram) (lent (length s.one ∷ length s.two ∷ []) sram)
-    (first (pick (eqb result (length x)) Decline.Accepted Decline.Length) (pick_both P (eqb result (length x)) accepted length-differs)
+    (first (pick (eqb result (length x)) (Ok tt) (Err Decline.Length)) (pick_both P (eqb result (length x)) accepted length-differs)
     (first (common_decline_of g s.device (one ∷ two ∷ []) 0) common
-    (first (pick (is_script_of x) Decline.Accepted Decline.Script) (pick_both P (is_script_of x) accepted script)
+    (first (pick (is_script_of x) (Ok tt) (Err Decline.Script)) (pick_both P (is_script_of x) accepted script)
     (pick_both P (leb (records_of x) 64) accepted records))))
   where
-    first : (a : Decline) {b : Decline} → P a → P b → P (first_of a b)
+    first : (a : Verdict) {b : Verdict} → P a → P b → P (first_of a b)
     first a pa pb = pick_both P (accepted_of a) pb pa
 
     lent : (lengths : List ℕ) (n : ℕ) → P (lent_decline_of g lengths n)
@@ -66,20 +67,20 @@ fit_four g a b c d sram = go (eqb a (bank_words_of g)) (eqb b (bank_words_of g))
     go true true true true false = refl
 
 -- the one that applies first
-module _ (possible : Decline) (rest : Decline) where
+module _ (possible : Verdict) (rest : Verdict) where
   lent_first : (range two other t : Bool)
-      → accepted_of (pick range (pick (two && other) Decline.Accepted Decline.Length) Decline.Geometry) ≡ false
-      → first_of (pick range (pick two Decline.Accepted Decline.Length) Decline.Geometry)
-      (first_of (pick t Decline.Accepted Decline.Length)
-      (first_of (first_of (pick range (pick other Decline.Accepted Decline.Length) Decline.Geometry) possible) rest))
-      ≡ pick range (pick (two && other) Decline.Accepted Decline.Length) Decline.Geometry
+      → accepted_of (pick range (pick (two && other) (Ok tt) (Err Decline.Length)) (Err Decline.Geometry)) ≡ false
+      → first_of (pick range (pick two (Ok tt) (Err Decline.Length)) (Err Decline.Geometry))
+      (first_of (pick t (Ok tt) (Err Decline.Length))
+      (first_of (first_of (pick range (pick other (Ok tt) (Err Decline.Length)) (Err Decline.Geometry)) possible) rest))
+      ≡ pick range (pick (two && other) (Ok tt) (Err Decline.Length)) (Err Decline.Geometry)
   lent_first false two other t h = refl
   lent_first true false other t h = refl
   lent_first true true false false h = refl
   lent_first true true false true h = refl
   lent_first true true true t h = absurd (true_not_false h)
 
-lent_passed : (range two other : Bool) → accepted_of (pick range (pick (two && other) Decline.Accepted Decline.Length) Decline.Geometry) ≡ true
+lent_passed : (range two other : Bool) → accepted_of (pick range (pick (two && other) (Ok tt) (Err Decline.Length)) (Err Decline.Geometry)) ≡ true
     → (range ≡ true) × (two ≡ true) × (other ≡ true)
 lent_passed true true true h = (refl, refl, refl)
 lent_passed true true false h = absurd (true_not_false (sym h))
@@ -87,7 +88,7 @@ lent_passed true false other h = absurd (true_not_false (sym h))
 lent_passed false two other h = absurd (true_not_false (sym h))
 
 module _ (g : Geometry) (sram : List ℕ) (s : State) (x : List ℕ) (number : ℕ) (one two result : List ℕ) where
-  abbrev unplayed : Decline
+  abbrev unplayed : Verdict
   unplayed = unplayed_decline_of g s (length sram) x (length one) (length two) (length result)
 
   -- ---- a call that is declined before a record is played, and one that is played
@@ -110,8 +111,8 @@ module _ (g : Geometry) (sram : List ℕ) (s : State) (x : List ℕ) (number : �
 
   -- both pairs of banks have their length
   both_fit : accepted_of (lent_of g sram s one two) ≡ true
-      → (lent_decline_of g (length s.one ∷ length s.two ∷ []) (length sram) ≡ Decline.Accepted)
-      × (lent_decline_of g (length one ∷ length two ∷ []) 0 ≡ Decline.Accepted)
+      → (lent_decline_of g (length s.one ∷ length s.two ∷ []) (length sram) ≡ Ok tt)
+      × (lent_decline_of g (length one ∷ length two ∷ []) 0 ≡ Ok tt)
   unfolding lent_decline_up_to
   both_fit h =
       let four = fit_four g (length s.one) (length s.two) (length one) (length two) (length sram) in
@@ -121,21 +122,21 @@ module _ (g : Geometry) (sram : List ℕ) (s : State) (x : List ℕ) (number : �
       (rw (range, first), rw (range, other))
 
   module _ (lent : accepted_of (lent_of g sram s one two) ≡ true) where
-    other_buffer : (length result ≡ length x → ⊥) → unplayed ≡ Decline.Length
+    other_buffer : (length result ≡ length x → ⊥) → unplayed ≡ Err Decline.Length
     unfolding unplayed_decline_of
     other_buffer e = rw ((both_fit lent).0, ne_eqb (length result) (length x) e)
 
     module _ (buffer : length result ≡ length x) where
-      no_device : possible_of g s.device ≡ false → unplayed ≡ Decline.Device
+      no_device : possible_of g s.device ≡ false → unplayed ≡ Err Decline.Device
       unfolding unplayed_decline_of common_decline_of
       no_device e = rw ((both_fit lent).0, eq-eqb (length result) (length x) buffer, (both_fit lent).1, e)
 
       module _ (possible : possible_of g s.device ≡ true) where
-        not_script : is_script_of x ≡ false → unplayed ≡ Decline.Script
+        not_script : is_script_of x ≡ false → unplayed ≡ Err Decline.Script
         unfolding unplayed_decline_of common_decline_of
         not_script e = rw ((both_fit lent).0, eq-eqb (length result) (length x) buffer, (both_fit lent).1, possible, e)
 
-        too_many : is_script_of x ≡ true → 64 < records_of x → unplayed ≡ Decline.Records
+        too_many : is_script_of x ≡ true → 64 < records_of x → unplayed ≡ Err Decline.Records
         unfolding unplayed_decline_of common_decline_of
         too_many e l =
             rw ((both_fit lent).0, eq-eqb (length result) (length x) buffer, (both_fit lent).1, possible, e, lt-leb (records_of x) 64 l)
@@ -206,7 +207,7 @@ module _ (g : Geometry) (sram : List ℕ) (s : State) (x : List ℕ) (number : �
         others = λ p bytes no4 no5 no6. not_given p (others p bytes no4 no5 no6);
       }
     where
-      before : {d : Decline} → unplayed ≡ d → accepted_of d ≡ false → (smallest_of g sram s x number one two result).decline ≡ d
+      before : {d : Verdict} → unplayed ≡ d → accepted_of d ≡ false → (smallest_of g sram s x number one two result).decline ≡ d
       before e off = declined_is (ap accepted_of e ∙ off) ∙ e
 
       lent_numbers : LentDeclines g (length s.one ∷ length s.two ∷ length one ∷ length two ∷ []) (length sram) (number_of (lent_of g sram s one two))

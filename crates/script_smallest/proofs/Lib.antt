@@ -1,5 +1,4 @@
 pub mod WithoutLaws
-pub mod SetLaws
 pub mod RemoveLaws
 pub mod TrialLaws
 pub mod DroppingLaws

@@ -3,24 +3,17 @@ use Prim.Native.Nat.{ℕ, ◌+◌, ◌*◌, ◌-◌, ◌<◌, ◌≤◌}
 use mathlib.Core.Path.{◌≡◌, sym, ap, ◌∙◌}
 use mathlib.Core.List.{List, ◌++◌, append_assoc}
 use native.Mathlib.Omega.{arith}
-use lib.ListN.{length, get_or, take, drop, replicate, length-append, replicate-append-replicate}
+use lib.ListN.{length, take, drop, replicate, length-append, replicate-append-replicate}
 use lib.Seq.{take-append-le, drop-append-le, take_at}
 use Rattle.script_format.specs.Records.{records_of}
 use Rattle.script_smallest.specs.Smallest.{without_of, with_zeros}
-use Rattle.script_smallest.proofs.SetLaws.{zeros_after}
-use Rattle.script_smallest.proofs.WithoutLaws.{without_length, byte_below, byte_above, shorter}
+use Rattle.script_smallest.proofs.WithoutLaws.{without_length, shorter}
 
 abbrev pub removed_bytes : List ℕ → ℕ → List ℕ
 removed_bytes x i = without_of x i ++ replicate 8 0
 
 pub removed_length : (x : List ℕ) (i : ℕ) → 8 * i + 8 ≤ length x → length (removed_bytes x i) ≡ length x
 removed_length x i h = length-append (without_of x i) (replicate 8 0) ∙ omega (arith, without_length x i (omega (arith, h)), h)
-
-pub removed_below : (x : List ℕ) (i : ℕ) → 8 * i ≤ length x → (j : ℕ) → j < 8 * i → get_or (removed_bytes x i) j 0 ≡ get_or x j 0
-removed_below x i h j l = zeros_after (without_of x i) 8 j ∙ byte_below x i h j l
-
-pub removed_above : (x : List ℕ) (i : ℕ) → 8 * i ≤ length x → (j : ℕ) → 8 * i ≤ j → get_or (removed_bytes x i) j 0 ≡ get_or x (j + 8) 0
-removed_above x i h j l = zeros_after (without_of x i) 8 j ∙ byte_above x i h j l
 
 -- ---- in a buffer that holds a script and zeros
 

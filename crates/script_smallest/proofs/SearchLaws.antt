@@ -1,18 +1,19 @@
 -- The search as a whole: what is known before it, its first play, and what it leaves. Assumes nothing.
 use Prim.Native.Nat.{ℕ, zero, suc, ◌+◌, ◌*◌, ◌%◌, ◌≤◌}
+use Rattle.std.specs.Prelude.{Ok, Err}
 use mathlib.Core.Path.{◌≡◌, refl, sym, ap, ◌∙◌}
 use mathlib.Core.Bool.{Bool, true, false}
-use mathlib.Core.List.{List, [], ◌∷◌, ◌++◌, append-nil}
+use mathlib.Core.List.{List, [], ◌∷◌}
 use native.Mathlib.Omega.{arith}
 use lib.Dec.{eqb, leb, ltb}
-use lib.ListN.{length, take, drop, drop_of_length-le}
-use lib.Seq.{sets, sets-eq, take_at, take_all, length-take-le}
+use lib.ListN.{length, take, drop}
+use lib.Seq.{take_at, take_all, length-take-le}
 use borrow.Author.Tests.{eqb-true, leb-true, ltb-true}
 use Rattle.words.specs.Word.{pick}
 use Rattle.words.proofs.PickLaws.{and_both}
 use Rattle.words.proofs.DeclineLaws.{held, neither}
 use Rattle.words.specs.declared.decline.Decline.{Decline}
-use Rattle.words.specs.Decline.{accepted_of}
+use Rattle.words.specs.Decline.{Verdict, accepted_of}
 use Rattle.geometry.specs.declared.banks.Geometry.{Geometry}
 use Rattle.geometry.specs.Lent.{lent_decline_of}
 use Rattle.geometry.proofs.LentLaws.{fits}
@@ -42,21 +43,21 @@ pub opened : (g : Geometry) (s : State) (sram : ℕ) (script : List ℕ) (scratc
 unfolding unplayed_decline_of is_script_of
 opened g s sram script scratch1 scratch2 result h =
     let (lent, rest1) = neither (lent_decline_of g (length s.one ∷ length s.two ∷ []) sram) _ h in
-    let (buffer, rest2) = neither (pick (eqb result (length script)) Decline.Accepted Decline.Length) _ rest1 in
+    let (buffer, rest2) = neither (pick (eqb result (length script)) (Ok tt) (Err Decline.Length)) _ rest1 in
     let (common, rest3) = neither (common_decline_of g s.device (scratch1 ∷ scratch2 ∷ []) 0) _ rest2 in
-    let (known, few) = neither (pick (is_script_of script) Decline.Accepted Decline.Script) _ rest3 in
+    let (known, few) = neither (pick (is_script_of script) (Ok tt) (Err Decline.Script)) _ rest3 in
     let originals = fits g (length s.one ∷ length s.two ∷ []) sram lent in
     let scratch = ready g s.device (scratch1 ∷ scratch2 ∷ []) 0 common in
-    let script_known = (held (is_script_of script) Decline.Accepted Decline.Script refl known).0 in
+    let script_known = (held (is_script_of script) (Ok tt) (Err Decline.Script) refl known).0 in
     record {
       lent = lent;
       first = scratch.lent.banks.0 ∙ sym originals.banks.0;
       other = scratch.lent.banks.1.0 ∙ sym originals.banks.1.0;
-      buffer = eqb-true _ _ (held (eqb result (length script)) Decline.Accepted Decline.Length refl buffer).0;
+      buffer = eqb-true _ _ (held (eqb result (length script)) (Ok tt) (Err Decline.Length) refl buffer).0;
       possible = scratch.possible;
       known = script_known;
       whole = eqb-true _ _ (and_both (eqb (length script % 8) 0) _ script_known).0;
-      few = leb-true _ _ (held (leb (records_of script) 64) Decline.Accepted Decline.Records refl few).0;
+      few = leb-true _ _ (held (leb (records_of script) 64) (Ok tt) (Err Decline.Records) refl few).0;
     }
 
 -- ---- the first play
@@ -85,16 +86,9 @@ pub smallest_shorter : (g : Geometry) (sram : List ℕ) (s : State) (number : �
 unfolding smallest_script_of
 smallest_shorter g sram s number x = dropped_shorter g sram s number (records_of x) x
 
--- a script put into a buffer of its length
-pub whole_put : (buffer script : List ℕ) → length buffer ≡ length script → sets buffer 0 script ≡ script
-whole_put buffer script e =
-    sets-eq script buffer 0 (omega (arith, e))
-    ∙ ap (λ (rest : List ℕ). script ++ rest) (drop_of_length-le buffer {i = 0 + length script} (omega (arith, e)))
-    ∙ append-nil script
-
 module _ (g : Geometry) (sram : List ℕ) (s : State) (number : ℕ) (script result : List ℕ) where
   pub not_found : (r : Bool) → r ≡ shows_of g sram s number (take (8 * records_of script) (without_of script (records_of script))) → length script % 8 ≡ 0
-      → r ≡ false → answer Decline.NotShown 0 s.one s.two result ≡ searched_of g sram s script number result
+      → r ≡ false → answer (Err Decline.NotShown) 0 s.one s.two result ≡ searched_of g sram s script number result
   unfolding searched_of
   not_found r e whole off = rw (sym (ap (shows_of g sram s number) (first_play script whole)) ∙ sym e ∙ off)
 
@@ -102,7 +96,7 @@ module _ (g : Geometry) (sram : List ℕ) (s : State) (number : ℕ) (script res
   pub found : (r : Bool) → r ≡ shows_of g sram s number (take (8 * records_of script) (without_of script (records_of script))) → length script % 8 ≡ 0
       → r ≡ true → (n : ℕ) (after buffer : List ℕ) → buffer ≡ script → n ≡ records_of (smallest_script_of g sram s number buffer)
       → after ≡ with_zeros (smallest_script_of g sram s number buffer) (length buffer)
-      → answer Decline.Accepted n s.one s.two after ≡ searched_of g sram s script number result
+      → answer (Ok tt) n s.one s.two after ≡ searched_of g sram s script number result
   unfolding searched_of
   found r e whole on n after buffer same en ea =
       rw (sym (ap (shows_of g sram s number) (first_play script whole)) ∙ sym e ∙ on, en, ea, same)
@@ -112,7 +106,7 @@ module _ (g : Geometry) (sram : List ℕ) (s : State) (number : ℕ) (script res
 
   -- a call that is played; the scratch banks hold the originals' contents
   pub searched : (one two : List ℕ) → accepted_of (unplayed_decline_of g s (length sram) script (length one) (length two) (length result)) ≡ true
-      → (decline : Decline) (records : ℕ) (first other after : List ℕ) → first ≡ s.one → other ≡ s.two
+      → (decline : Verdict) (records : ℕ) (first other after : List ℕ) → first ≡ s.one → other ≡ s.two
       → answer decline records s.one s.two after ≡ searched_of g sram s script number result
       → answer decline records first other after ≡ smallest_of g sram s script number one two result
   unfolding smallest_of

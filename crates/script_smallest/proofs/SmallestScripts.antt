@@ -1,5 +1,6 @@
 -- What the call leaves, and all that is promised of it. Assumes nothing.
 use Prim.Native.Nat.{ℕ, ◌*◌, ◌-◌, ◌%◌, ◌<◌}
+use Rattle.std.specs.Prelude.{Ok, Err}
 use mathlib.Core.Path.{◌≡◌, refl, sym, ap, subst, ◌∙◌}
 use mathlib.Core.Bool.{Bool, true, false, not}
 use mathlib.Core.List.{List, ◌++◌}
@@ -14,7 +15,7 @@ use Rattle.words.specs.Word.{pick}
 use Rattle.words.proofs.BitLaws.{true_not_false}
 use Rattle.words.proofs.PickLaws.{and_both}
 use Rattle.words.specs.declared.decline.Decline.{Decline}
-use Rattle.words.specs.Decline.{number_of, accepted_of}
+use Rattle.words.specs.Decline.{Verdict, number_of, accepted_of}
 use Rattle.words.proofs.Numbers.{numbers}
 use Rattle.geometry.specs.declared.banks.Geometry.{Geometry}
 use Rattle.geometry.proofs.FitLaws.{lent_fixes}
@@ -35,11 +36,11 @@ use Rattle.script_smallest.proofs.AnswerLaws.{one_of_six, declines}
 
 before_play : (g : Geometry) (s : State) (sram : ℕ) (x : List ℕ) (one two result : ℕ) → number_of (unplayed_decline_of g s sram x one two result) ≡ 21 → ⊥
 before_play g s sram x one two result =
-    one_of_six (λ (d : Decline). number_of d ≡ 21 → ⊥) g s sram x one two result (λ e. omega arith) (λ e. omega arith) (λ e. omega arith) (λ e. omega arith)
+    one_of_six (λ (d : Verdict). number_of d ≡ 21 → ⊥) g s sram x one two result (λ e. omega arith) (λ e. omega arith) (λ e. omega arith) (λ e. omega arith)
     (λ e. omega arith) (λ e. omega arith)
 
 module _ (g : Geometry) (sram : List ℕ) (s : State) (x : List ℕ) (number : ℕ) (one two result : List ℕ) where
-  abbrev unplayed : Decline
+  abbrev unplayed : Verdict
   unplayed = unplayed_decline_of g s (length sram) x (length one) (length two) (length result)
 
   abbrev smallest : List ℕ
@@ -62,7 +63,7 @@ module _ (g : Geometry) (sram : List ℕ) (s : State) (x : List ℕ) (number : �
         let records : length smallest % 8 ≡ 0 = eqb-true _ _ (and_both (eqb (length smallest % 8) 0) _ result_shown.is-script).0 in
         omega (arith, records)
 
-    found : Leaves g sram s x number one two result (answer Decline.Accepted (records_of smallest) s.one s.two (with_zeros smallest (length x)))
+    found : Leaves g sram s x number one two result (answer (Ok tt) (records_of smallest) s.one s.two (with_zeros smallest (length x)))
     found =
         record {
           long =
@@ -84,7 +85,7 @@ module _ (g : Geometry) (sram : List ℕ) (s : State) (x : List ℕ) (number : �
           untouched = λ some other. absurd (some refl);
         }
 
-  not_found : Leaves g sram s x number one two result (answer Decline.NotShown 0 s.one s.two result)
+  not_found : Leaves g sram s x number one two result (answer (Err Decline.NotShown) 0 s.one s.two result)
   not_found =
       record {
         long = λ on. absurd (true_not_false (sym on));
@@ -118,8 +119,8 @@ module _ (g : Geometry) (sram : List ℕ) (s : State) (x : List ℕ) (number : �
       go : (t : Bool) → accepted_of unplayed ≡ t → (v : Bool) → shows_of g sram s number x ≡ v
           → Leaves g sram s x number one two result
           (pick t
-          (pick v (answer Decline.Accepted (records_of smallest) s.one s.two (with_zeros smallest (length x)))
-          (answer Decline.NotShown 0 s.one s.two result))
+          (pick v (answer (Ok tt) (records_of smallest) s.one s.two (with_zeros smallest (length x)))
+          (answer (Err Decline.NotShown) 0 s.one s.two result))
           (answer unplayed 0 one two result))
       go true et true ev = found et ev
       go true et false ev = not_found

@@ -1,8 +1,8 @@
 -- W-210: the smallest script that shows a decline. Assumes nothing.
-use Rattle.std.specs.Prelude.{ℕ, zero, suc, ◌+◌, ◌*◌, ◌-◌, Bool, not, ◌&&◌, List, [], ◌∷◌, ◌++◌, eqb, leb, ltb, length, take, drop, replicate}
+use Rattle.std.specs.Prelude.{ℕ, zero, suc, ◌+◌, ◌*◌, ◌-◌, Bool, not, ◌&&◌, List, [], ◌∷◌, ◌++◌, eqb, leb, ltb, length, take, drop, replicate, Ok, Err}
 use Rattle.words.specs.Word.{pick, any_below, first_from}
 use Rattle.words.specs.declared.decline.Decline.{Decline}
-use Rattle.words.specs.Decline.{number_of, accepted_of, first_of}
+use Rattle.words.specs.Decline.{Verdict, number_of, accepted_of, first_of}
 use Rattle.geometry.specs.declared.banks.Geometry.{Geometry}
 use Rattle.geometry.specs.Lent.{lent_decline_of}
 use Rattle.device.specs.State.{State}
@@ -48,18 +48,18 @@ most_records = 64
 
 -- declines 1, 2, 3, 14 and 20, before a record is played: "Scratch banks or a result buffer of another length are declined as 2"; "20, after 14, more than
 -- 64 records". Of 2 it is the same number whichever length is judged first.
-unfoldable pub unplayed_decline_of : Geometry → State → ℕ → List ℕ → ℕ → ℕ → ℕ → Decline
+unfoldable pub unplayed_decline_of : Geometry → State → ℕ → List ℕ → ℕ → ℕ → ℕ → Verdict
 unplayed_decline_of g s sram script scratch_one scratch_two result =
     first_of (lent_decline_of g (length s.one ∷ length s.two ∷ []) sram)
-    (first_of (pick (eqb result (length script)) Decline.Accepted Decline.Length)
+    (first_of (pick (eqb result (length script)) (Ok tt) (Err Decline.Length))
     (first_of (common_decline_of g s.device (scratch_one ∷ scratch_two ∷ []) 0)
-    (first_of (pick (is_script_of script) Decline.Accepted Decline.Script)
-    (pick (leb (records_of script) most_records) Decline.Accepted Decline.Records))))
+    (first_of (pick (is_script_of script) (Ok tt) (Err Decline.Script))
+    (pick (leb (records_of script) most_records) (Ok tt) (Err Decline.Records)))))
 
 -- everything after the call: the answer, the number of records of the result, the scratch banks and the result buffer. The device is a value; the original
 -- banks, the SRAM and the script are lent to be read only.
 pub record Smallest : Type 0 where
-  pub decline : Decline
+  pub decline : Verdict
   pub records : ℕ
   pub scratch_one : List ℕ
   pub scratch_two : List ℕ
@@ -69,7 +69,7 @@ pub record Smallest : Type 0 where
 abbrev pub with_zeros : List ℕ → ℕ → List ℕ
 with_zeros bytes n = bytes ++ replicate (n - length bytes) 0
 
-abbrev pub answer : Decline → ℕ → List ℕ → List ℕ → List ℕ → Smallest
+abbrev pub answer : Verdict → ℕ → List ℕ → List ℕ → List ℕ → Smallest
 answer decline records one two result = record { decline = decline; records = records; scratch_one = one; scratch_two = two; result = result }
 
 -- "21, after it, the play never gives the number", with 0 records (ours); else what no record can go of
@@ -77,8 +77,8 @@ unfoldable pub searched_of : Geometry → List ℕ → State → List ℕ → �
 searched_of g sram s script number result =
     let smallest = smallest_script_of g sram s number script in
     pick (shows_of g sram s number script)
-    (answer Decline.Accepted (records_of smallest) s.one s.two (with_zeros smallest (length script)))
-    (answer Decline.NotShown 0 s.one s.two result)
+    (answer (Ok tt) (records_of smallest) s.one s.two (with_zeros smallest (length script)))
+    (answer (Err Decline.NotShown) 0 s.one s.two result)
 
 -- "Afterwards the scratch banks hold the originals' contents, also where 21 is given; nothing else lent changes then." With every other decline the scratch
 -- banks are as before, too, and the records are 0 (ours).

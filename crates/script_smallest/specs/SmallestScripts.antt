@@ -1,7 +1,6 @@
 -- W-210: what is promised of the smallest script, for every call, and that this fixes the call. Assumes nothing.
 use Rattle.std.specs.Prelude.{ℕ, ◌+◌, ◌*◌, ◌-◌, ◌<◌, ◌≤◌, ◌≡◌, true, false, List, [], ◌∷◌, ◌⊎◌, length, take, drop, replicate}
-use Rattle.words.specs.declared.decline.Decline.{Decline}
-use Rattle.words.specs.Decline.{number_of, accepted_of}
+use Rattle.words.specs.Decline.{Verdict, number_of, accepted_of}
 use Rattle.geometry.specs.declared.banks.Geometry.{Geometry}
 use Rattle.geometry.specs.Lent.{lent_decline_of, LentDeclines}
 use Rattle.device.specs.State.{State}
@@ -56,7 +55,7 @@ pub record Shown (g : Geometry) (sram : List ℕ) (s : State) (x : List ℕ) (nu
   pub accepted_before : (k : ℕ) → k + 1 < records_of r → answer_at g sram s r k ≡ 0
 
 -- declines 1 and 2, by the geometry and the lengths of the four banks and of the SRAM
-abbrev pub lent_of : Geometry → List ℕ → State → List ℕ → List ℕ → Decline
+abbrev pub lent_of : Geometry → List ℕ → State → List ℕ → List ℕ → Verdict
 lent_of g sram s one two = lent_decline_of g (length s.one ∷ length s.two ∷ length one ∷ length two ∷ []) (length sram)
 
 -- none of 1, 2, 3, 14 and 20 applies: the script is played

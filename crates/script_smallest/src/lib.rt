@@ -29,18 +29,6 @@ pub struct SmallestScript {
     pub records: u32,
 }
 
-// Sets a bank to the words of another of its length.
-fn set_bank(bank: &mut [u32], from: &[u32])
-    requires { length bank.old ≡ length from.now }
-    ensures { bank.new ≡ from.now }
-{
-    let mut i = 0;
-    while i < from.len() {
-        bank[i] = from[i];
-        i += 1;
-    }
-}
-
 // Sets the scratch banks from the originals.
 fn set_banks(scratch1: &mut [u32], scratch2: &mut [u32], one: &[u32], two: &[u32])
     requires scratch1_len { length scratch1.old ≡ length one.now }
@@ -48,8 +36,8 @@ fn set_banks(scratch1: &mut [u32], scratch2: &mut [u32], one: &[u32], two: &[u32
     ensures scratch1_after { scratch1.new ≡ one.now }
     ensures scratch2_after { scratch2.new ≡ two.now }
 {
-    set_bank(scratch1, one);
-    set_bank(scratch2, two);
+    scratch1.copy_from_slice(one);
+    scratch2.copy_from_slice(two);
 }
 
 // Record k of a script without one of its records; without none where that one lies past the last.
@@ -83,8 +71,7 @@ fn gives_without(
 {
     let mut device = d;
     let mut given = false;
-    let mut k = 0;
-    while k < count {
+    for k in 0..count {
         let a = play_record(
             g,
             device,
@@ -93,12 +80,10 @@ fn gives_without(
             sram,
             record_without(script, removed, k),
         );
-        let decline = a.decline;
         device = a.device;
-        if decline.number() == number {
+        if a.decline.number() == number {
             given = true;
         }
-        k += 1;
     }
     given
 }
@@ -134,28 +119,15 @@ fn shows_without(
     )
 }
 
-// The byte that stands a record after another; 0 past the last.
-fn byte_after(bytes: &[u8], k: usize) -> u8
-    requires { k < length bytes.now }
-    ensures { result ≡ get_or bytes.now (k + 8) 0 }
-{
-    if k + RECORD_BYTES < bytes.len() {
-        return bytes[k + RECORD_BYTES];
-    }
-    0
-}
-
 // Removes a record: those after it move down, and zeros follow.
 fn remove_record(script: &mut [u8], removed: usize)
     requires { 8 * removed + 8 ≤ length script.old }
     ensures { script.new ≡ without_of script.old removed ++ replicate 8 0 }
 {
-    let mut k = RECORD_BYTES * removed;
-    while k < script.len() {
-        let byte = byte_after(script, k);
-        script[k] = byte;
-        k += 1;
-    }
+    let at = RECORD_BYTES * removed;
+    let kept = script.len() - RECORD_BYTES;
+    script.copy_within(at + RECORD_BYTES.., at);
+    script[kept..].fill(0);
 }
 
 // Drops the lowest record that can go, again and again; what is left stands in front, zeros after it. Gives the number of records left.
@@ -269,7 +241,7 @@ fn search(
             records: 0,
         };
     }
-    put_front(res, 0, script);
+    res.copy_from_slice(script);
     let records = drop_records(g, d, one, two, sram, scratch1, scratch2, res, number);
     SmallestScript {
         decline: Decline::Accepted,

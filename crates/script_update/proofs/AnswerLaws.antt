@@ -1,5 +1,6 @@
 -- The buffer holds the eight bytes of each action and what it held after them, and a list is known by its bytes. Assumes nothing.
 use mathlib.Core.Path.{◌≡◌, refl, sym, ap, ◌∙◌}
+use Rattle.std.specs.Prelude.{Ok, Err}
 use mathlib.Core.Bool.{Bool, true, false}
 use mathlib.Core.List.{List, ◌++◌}
 use Prim.Native.Nat.{ℕ, ◌+◌, ◌-◌, ◌*◌, ◌/◌, ◌%◌, ◌≤◌, ◌<◌}
@@ -65,17 +66,17 @@ module _ (g : Geometry) (s : State) (image buffer : List ℕ) where
   unfolding write_script_of write_script_decline_of
   refused off = rw (off, off)
 
-  short : accepted_of (start_of g s image).decline ≡ true → length buffer < 8 * total_of g → own ≡ writing Decline.ScriptBuffer 0 buffer
+  short : accepted_of (start_of g s image).decline ≡ true → length buffer < 8 * total_of g → own ≡ writing (Err Decline.ScriptBuffer) 0 buffer
   unfolding write_script_of write_script_decline_of
   short on l = rw (on, lt-leb (8 * total_of g) (length buffer) l)
 
-  given : Room g s image buffer → own ≡ writing Decline.Accepted (total_of g) (script ++ drop (8 * total_of g) buffer)
+  given : Room g s image buffer → own ≡ writing (Ok tt) (total_of g) (script ++ drop (8 * total_of g) buffer)
   unfolding write_script_of write_script_decline_of
   given r = rw (r.started, le-leb (8 * total_of g) (length buffer) r.room, size)
 
   -- one of the three
   by_answer : (P : Writing → Type 0) → (accepted_of (start_of g s image).decline ≡ false → P (writing (start_of g s image).decline 0 buffer))
-      → P (writing Decline.ScriptBuffer 0 buffer) → (Room g s image buffer → P (writing Decline.Accepted (total_of g) (script ++ drop (8 * total_of g) buffer)))
+      → P (writing (Err Decline.ScriptBuffer) 0 buffer) → (Room g s image buffer → P (writing (Ok tt) (total_of g) (script ++ drop (8 * total_of g) buffer)))
       → P own
   by_answer P off less full = go (accepted_of (start_of g s image).decline) refl (dec_lt (length buffer) (8 * total_of g))
     where

@@ -1,6 +1,7 @@
 -- What an accepted call tells: the start is accepted, and the buffer holds the script.
 -- Assumes nothing.
 use mathlib.Core.Path.{◌≡◌, refl}
+use Rattle.std.specs.Prelude.{Ok, Err}
 use mathlib.Core.Bool.{true}
 use mathlib.Core.List.{List}
 use Prim.Native.Nat.{ℕ, ◌≤◌}
@@ -42,4 +43,4 @@ pub holds : (g : Geometry) (s : State) (image : List ℕ) (buffer : ℕ) → acc
 unfolding write_script_decline_of
 holds g s image buffer h =
     let (opened, fits) = neither (start_of g s image).decline _ h in
-    record { sizes = sized g s image opened; room = leb-true _ _ (held _ Decline.Accepted Decline.ScriptBuffer refl fits).0 }
+    record { sizes = sized g s image opened; room = leb-true _ _ (held _ (Ok tt) (Err Decline.ScriptBuffer) refl fits).0 }

@@ -1,8 +1,8 @@
 -- W-202: the script of an update, and the call that writes it into a lent buffer. Assumes nothing.
-use Rattle.std.specs.Prelude.{ℕ, ◌*◌, List, [], ◌∷◌, ◌++◌, leb, length, drop}
+use Rattle.std.specs.Prelude.{ℕ, ◌*◌, List, [], ◌∷◌, ◌++◌, leb, length, drop, Ok, Err}
 use Rattle.words.specs.Word.{pick}
 use Rattle.words.specs.declared.decline.Decline.{Decline}
-use Rattle.words.specs.Decline.{accepted_of, first_of}
+use Rattle.words.specs.Decline.{Verdict, accepted_of, first_of}
 use Rattle.script_format.specs.Records.{bytes_of}
 use Rattle.geometry.specs.declared.banks.Geometry.{Geometry}
 use Rattle.device.specs.State.{State}
@@ -24,17 +24,17 @@ abbrev pub script_bytes_of : Geometry → ℕ
 script_bytes_of g = 8 * total_of g
 
 -- "Start's own checks come first. Turned away: 17, after those, the buffer is shorter than 8 × total.", by the buffer's length
-unfoldable pub write_script_decline_of : Geometry → State → List ℕ → ℕ → Decline
+unfoldable pub write_script_decline_of : Geometry → State → List ℕ → ℕ → Verdict
 write_script_decline_of g s image buffer =
-    first_of (start_of g s image).decline (pick (leb (script_bytes_of g) buffer) Decline.Accepted Decline.ScriptBuffer)
+    first_of (start_of g s image).decline (pick (leb (script_bytes_of g) buffer) (Ok tt) (Err Decline.ScriptBuffer))
 
 -- everything after the call: the answer, the number of records, the buffer
 pub record Writing : Type 0 where
-  pub decline : Decline
+  pub decline : Verdict
   pub records : ℕ
   pub buffer : List ℕ
 
-abbrev pub writing : Decline → ℕ → List ℕ → Writing
+abbrev pub writing : Verdict → ℕ → List ℕ → Writing
 writing decline records buffer = record { decline = decline; records = records; buffer = buffer }
 
 -- the buffer with the script in front: "bytes past the last record keep their contents"
@@ -46,5 +46,5 @@ unfoldable pub write_script_of : Geometry → State → List ℕ → List ℕ �
 write_script_of g s image buffer =
     let decline = write_script_decline_of g s image (length buffer) in
     pick (accepted_of decline)
-    (writing Decline.Accepted (total_of g) (with_script (script_of g image (lower_word_of g s)) buffer))
+    (writing (Ok tt) (total_of g) (with_script (script_of g image (lower_word_of g s)) buffer))
     (writing decline 0 buffer)

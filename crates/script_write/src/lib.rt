@@ -57,12 +57,9 @@ fn put_actions(out: &mut [u8], g: Geometry, image: &[u32], w: u32)
     requires g_in_bounds { 8 * total_of g ≤ length out.old }
     ensures { out.new ≡ sets out.old 0 (script_of g image.now w) }
 {
-    let count = total(g);
-    let mut place = 0;
-    while place < count {
+    for place in 0..total(g) {
         let action = action_at(g, image, w, place);
         put_record(out, RECORD_BYTES * place as usize, record_of(action));
-        place += 1;
     }
 }
 

@@ -9,9 +9,9 @@ use lib.Dec.{eqb, ltb}
 use borrow.Author.Tests.{eqb-true, eq-eqb, le-ltb}
 use Rattle.words.specs.Word.{pick}
 use Rattle.words.proofs.BitLaws.{true_not_false}
-use Rattle.sequence.specs.declared.comparison.Reason.{Reason}
-use Rattle.sequence.specs.declared.comparison.Reason.TheVariants.{Higher, Equal, OnlyOneValid, NoneValid, NotCompared}
-use Rattle.sequence.specs.declared.comparison.Comparison.{Comparison}
+use Rattle.sequence.specs.Comparison.{Reason}
+use Rattle.sequence.specs.Comparison.Reason.{Higher, Equal, OnlyOneValid, NoneValid, NotCompared}
+use Rattle.sequence.specs.Comparison.{Comparison}
 use Rattle.sequence.specs.Sequence.{tseq_of, valid_of}
 use Rattle.sequence.specs.Comparison.{reason_number_of, comparison, compare_of, bfswap_of}
 use Rattle.sequence.specs.Reasons.{ChosenBefore, Reasons, Comparisons}

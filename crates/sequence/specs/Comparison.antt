@@ -1,10 +1,32 @@
 -- The comparison of the banks' sequence words, with W-205's reason beside the bank. Assumes nothing.
 use Rattle.std.specs.Prelude.{ℕ, Bool, true, false, ◌&&◌, eqb, ltb}
 use Rattle.words.specs.Word.{pick}
-use Rattle.sequence.specs.declared.comparison.Reason.{Reason}
-use Rattle.sequence.specs.declared.comparison.Reason.TheVariants.{Higher, Equal, OnlyOneValid, NoneValid, NotCompared}
-use Rattle.sequence.specs.declared.comparison.Comparison.{Comparison}
+use Rattle.sequence.specs.declared.comparison.Reason as code
+use Rattle.sequence.specs.declared.comparison.Reason.TheVariants as code_variants
+use Rattle.sequence.specs.declared.comparison.Comparison as code_comparison
 use Rattle.sequence.specs.Sequence.{tseq_of, valid_of}
+
+-- the reason of a comparison; or nothing was compared
+pub data Reason : Type 0 where
+  Higher : Reason
+  Equal : Reason
+  OnlyOneValid : Reason
+  NoneValid : Reason
+  NotCompared : Reason
+
+pub record Comparison : Type 0 where
+  pub second : Bool
+  pub reason : Reason
+
+-- a comparison of the code, as one of these
+abbrev pub reason_from : code.Reason → Reason
+reason_from code_variants.Higher = Higher
+reason_from code_variants.Equal = Equal
+reason_from code_variants.OnlyOneValid = OnlyOneValid
+reason_from code_variants.NoneValid = NoneValid
+
+abbrev pub comparison_from : code_comparison.Comparison → Comparison
+comparison_from c = record { second = c.second; reason = reason_from c.reason }
 
 -- W-205: "higher, equal, only one valid, none valid", numbered in this order (ours); 4 where nothing was compared (ours)
 abbrev pub reason_number_of : Reason → ℕ

@@ -4,7 +4,7 @@
 use Rattle.std.specs.Prelude.{ℕ, ◌≡◌, Bool, true, false, not, ◌&&◌, eqb, ltb}
 use Rattle.words.specs.Word.{pick}
 use Rattle.sequence.specs.Sequence.{tseq_of, valid_of}
-use Rattle.sequence.specs.declared.comparison.Comparison.{Comparison}
+use Rattle.sequence.specs.Comparison.{Comparison}
 use Rattle.sequence.specs.Comparison.{reason_number_of, compare_of}
 
 -- 01's cases, which choose whether bank 2 goes lower

@@ -1,10 +1,10 @@
 // The comparison of two sequence words: which bank a reset puts lower, and why.
 ghost use Rattle.std.specs.Prelude.{◌≡◌};
-ghost use Rattle.sequence.specs.Comparison.{reason_number_of, compare_of};
+ghost use Rattle.sequence.specs.Comparison.{reason_number_of, reason_from, comparison_from, compare_of};
 
 use crate::{is_valid, tseq};
 
-#[derive(Clone, Copy)]
+#[derive(Clone, Copy, PartialEq, Eq, Debug)]
 pub enum Reason {
     // 0: both words are valid, and the higher T goes lower.
     Higher,
@@ -14,27 +14,24 @@ pub enum Reason {
     OnlyOneValid,
     // 3: none is valid, and bank 1 goes lower.
     NoneValid,
-    // 4: nothing was compared: a reset that is declined.
-    NotCompared,
 }
 
 impl Reason {
     // The number of a reason: ours, the paper gives none.
     pub fn number(self) -> u32
-        ensures { result ≡ reason_number_of self }
+        ensures { result ≡ reason_number_of (reason_from self) }
     {
         match self {
             Reason::Higher => 0,
             Reason::Equal => 1,
             Reason::OnlyOneValid => 2,
             Reason::NoneValid => 3,
-            Reason::NotCompared => 4,
         }
     }
 }
 
 // Whether bank 2 goes lower, as a reset then sets BFSWAP, and why.
-#[derive(Clone, Copy)]
+#[derive(Clone, Copy, PartialEq, Eq, Debug)]
 pub struct Comparison {
     pub second: bool,
     pub reason: Reason,
@@ -43,36 +40,30 @@ pub struct Comparison {
 // The comparison of the sequence words of bank 1 and bank 2.
 #[tactic(auto, unfolding(crate::specs::Comparison::compare_of))]
 pub fn compare(first: u32, other: u32) -> Comparison
-    ensures { result ≡ compare_of first other }
+    ensures { comparison_from result ≡ compare_of first other }
 {
-    if !is_valid(first) {
-        if is_valid(other) {
-            return Comparison {
-                second: true,
-                reason: Reason::OnlyOneValid,
-            };
-        }
-        return Comparison {
-            second: false,
-            reason: Reason::NoneValid,
-        };
-    }
-    if !is_valid(other) {
-        return Comparison {
-            second: false,
-            reason: Reason::OnlyOneValid,
-        };
-    }
     let t = tseq(first);
     let u = tseq(other);
-    if t == u {
-        return Comparison {
+    match (is_valid(first), is_valid(other)) {
+        (true, true) if t == u => Comparison {
             second: false,
             reason: Reason::Equal,
-        };
-    }
-    Comparison {
-        second: t < u,
-        reason: Reason::Higher,
+        },
+        (true, true) => Comparison {
+            second: t < u,
+            reason: Reason::Higher,
+        },
+        (true, false) => Comparison {
+            second: false,
+            reason: Reason::OnlyOneValid,
+        },
+        (false, true) => Comparison {
+            second: true,
+            reason: Reason::OnlyOneValid,
+        },
+        (false, false) => Comparison {
+            second: false,
+            reason: Reason::NoneValid,
+        },
     }
 }

@@ -1,11 +1,11 @@
 -- What an accepted request tells: the geometry is in range, each bank has its length, and the buffer holds the sheet.
 -- Assumes nothing.
 use mathlib.Core.Path.{◌≡◌, refl}
+use Rattle.std.specs.Prelude.{Ok}
 use mathlib.Core.Bool.{true}
 use mathlib.Core.List.{[], ◌∷◌}
 use Prim.Native.Nat.{ℕ, ◌≤◌}
 use borrow.Author.Tests.{leb-true}
-use Rattle.words.specs.declared.decline.Decline.{Decline}
 use Rattle.words.specs.Decline.{accepted_of}
 use Rattle.words.proofs.DeclineLaws.{held, neither}
 use Rattle.geometry.specs.declared.banks.Geometry.{Geometry}
@@ -30,5 +30,5 @@ holds g d one two buffer h =
       range = lent.range;
       first = lent.banks.0;
       other = lent.banks.1.0;
-      room = leb-true _ _ (held _ Decline.Accepted _ refl fits).0;
+      room = leb-true _ _ (held _ (Ok tt) _ refl fits).0;
     }

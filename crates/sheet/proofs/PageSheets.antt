@@ -10,8 +10,7 @@ use lib.ListN.{length, get_or}
 use lib.Seq.{ext_get_or}
 use borrow.Author.Tests.{eqb-false, le-leb, lt-leb}
 use Rattle.words.specs.Word.{pick}
-use Rattle.words.specs.declared.decline.Decline.{Decline}
-use Rattle.words.specs.Decline.{number_of, accepted_of}
+use Rattle.words.specs.Decline.{Verdict, number_of, accepted_of}
 use Rattle.words.proofs.BitLaws.{true_not_false}
 use Rattle.words.proofs.Numbers.{numbers}
 use Rattle.text.specs.Digits.{digit_of, width_of}
@@ -36,7 +35,7 @@ module _ (g : Geometry) (d : Device) (one two buffer : List ℕ) where
   abbrev lent : List ℕ
   lent = length one ∷ length two ∷ []
 
-  abbrev common : Decline
+  abbrev common : Verdict
   common = common_decline_of g d lent 0
 
   -- ---- the answer of the call is as asked

@@ -1,8 +1,8 @@
 -- The page sheet: its lines in order, and the call that writes it into a lent buffer. Assumes nothing.
-use Rattle.std.specs.Prelude.{ℕ, zero, suc, ◌*◌, Bool, true, false, List, [], ◌∷◌, ◌++◌, leb, length, drop}
+use Rattle.std.specs.Prelude.{ℕ, zero, suc, ◌*◌, Bool, true, false, List, [], ◌∷◌, ◌++◌, leb, length, drop, Ok, Err}
 use Rattle.words.specs.Word.{pick}
 use Rattle.words.specs.declared.decline.Decline.{Decline}
-use Rattle.words.specs.Decline.{accepted_of, first_of}
+use Rattle.words.specs.Decline.{Verdict, accepted_of, first_of}
 use Rattle.geometry.specs.declared.banks.Geometry.{Geometry}
 use Rattle.geometry.specs.Banks.{pages_of}
 use Rattle.device.specs.declared.record.Device.{Device}
@@ -33,17 +33,17 @@ abbrev pub sheet_bytes_of : Geometry → ℕ
 sheet_bytes_of g = 34 * pages_of g
 
 -- "Turned away: 18, after 1 to 3, the buffer is shorter than the sheet.", by the lengths of bank 1, bank 2 and the buffer
-unfoldable pub page_sheet_decline_of : Geometry → Device → ℕ → ℕ → ℕ → Decline
+unfoldable pub page_sheet_decline_of : Geometry → Device → ℕ → ℕ → ℕ → Verdict
 page_sheet_decline_of g d one two buffer =
-    first_of (common_decline_of g d (one ∷ two ∷ []) 0) (pick (leb (sheet_bytes_of g) buffer) Decline.Accepted Decline.SheetBuffer)
+    first_of (common_decline_of g d (one ∷ two ∷ []) 0) (pick (leb (sheet_bytes_of g) buffer) (Ok tt) (Err Decline.SheetBuffer))
 
 -- everything after the call: the answer, the bytes of the sheet, the buffer
 pub record Given : Type 0 where
-  pub decline : Decline
+  pub decline : Verdict
   pub bytes : ℕ
   pub buffer : List ℕ
 
-abbrev pub given : Decline → ℕ → List ℕ → Given
+abbrev pub given : Verdict → ℕ → List ℕ → Given
 given decline bytes buffer = record { decline = decline; bytes = bytes; buffer = buffer }
 
 -- the buffer with the sheet in front: "Bytes past the sheet keep their contents."
@@ -55,5 +55,5 @@ unfoldable pub page_sheet_of : Geometry → Device → List ℕ → List ℕ →
 page_sheet_of g d one two buffer =
     let decline = page_sheet_decline_of g d (length one) (length two) (length buffer) in
     pick (accepted_of decline)
-    (given Decline.Accepted (sheet_bytes_of g) (with_sheet (sheet_of g d one two) buffer))
+    (given (Ok tt) (sheet_bytes_of g) (with_sheet (sheet_of g d one two) buffer))
     (given decline 0 buffer)

@@ -1,5 +1,6 @@
 -- Stores in a row: a list in two parts is one part after the other. What an accepted start-up tells. Assumes nothing.
 use mathlib.Core.Path.{◌≡◌, refl}
+use Rattle.std.specs.Prelude.{Ok, Err}
 use mathlib.Core.Bool.{true}
 use mathlib.Core.List.{List, [], ◌∷◌, ◌++◌}
 use Rattle.geometry.specs.declared.banks.Geometry.{Geometry}
@@ -21,4 +22,4 @@ pub start_up_at_rest : (g : Geometry) (d : Device) → accepted_of (start_up_dec
 unfolding start_up_decline_of
 start_up_at_rest g d h =
     let s0 = neither (common_decline_of g d [] 0) _ h in
-    at_rest_lem g d s0.0 (passed (running d) Decline.Running Decline.Accepted refl s0.1).0
+    at_rest_lem g d s0.0 (passed (running d) (Err Decline.Running) (Ok tt) refl s0.1).0

@@ -1,12 +1,13 @@
 -- A start-up is its stores one after another, and its declines are told by two tests. Assumes nothing.
 use mathlib.Core.Path.{◌≡◌, refl, sym, subst, ◌∙◌}
+use Rattle.std.specs.Prelude.{Ok, Err}
 use mathlib.Core.Bool.{Bool, true, false}
 use mathlib.Core.List.{[]}
 use native.Mathlib.Decide.{ℕ_discrete}
 use borrow.Author.Tests.{eq-eqb, ne_eqb}
 use Rattle.words.specs.Word.{pick, bit}
 use Rattle.words.specs.declared.decline.Decline.{Decline}
-use Rattle.words.specs.Decline.{number_of, accepted_of, first_of}
+use Rattle.words.specs.Decline.{Verdict, number_of, accepted_of, first_of}
 use Rattle.words.proofs.BitLaws.{has_bit}
 use Rattle.words.proofs.Numbers.{numbers}
 use Rattle.geometry.specs.declared.banks.Geometry.{Geometry}
@@ -14,7 +15,7 @@ use Rattle.device.specs.declared.record.Device.{Device}
 use Rattle.device.specs.Record.{register_of, running, bfswap}
 use Rattle.common_declines.specs.CommonDecline.{common_decline_of, Usable, CommonDeclines}
 use Rattle.common_declines.proofs.DeclineLaws.{usable, used, common_first, common_fixes}
-use Rattle.start_up.specs.declared.StartedUp.{StartedUp}
+use Rattle.start_up.specs.StartedUp.{StartedUp}
 use Rattle.start_up.specs.StartUp.{start_up_stores, start_up_decline_of, start_up_of}
 use Rattle.start_up.specs.StartUpSentences.{stored_to, swapped, StartUpSentences, StartUpsFixed}
 
@@ -22,11 +23,11 @@ module _ (g : Geometry) (d : Device) where
   abbrev own : StartedUp
   own = start_up_of g d
 
-  abbrev common : Decline
+  abbrev common : Verdict
   common = common_decline_of g d [] 0
 
-  abbrev idle : Decline
-  idle = pick (running d) Decline.Running Decline.Accepted
+  abbrev idle : Verdict
+  idle = pick (running d) (Err Decline.Running) (Ok tt)
 
   same_number : number_of own.decline ≡ number_of (first_of common idle)
   unfolding start_up_of start_up_decline_of

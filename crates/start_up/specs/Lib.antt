@@ -1,2 +1,3 @@
+pub mod StartedUp
 pub mod StartUp
 pub mod StartUpSentences

@@ -1,11 +1,11 @@
 -- "Start-up (house)": its stores in order, and the whole of it. Assumes nothing.
-use Rattle.std.specs.Prelude.{ℕ, List, [], ◌∷◌, ◌++◌}
+use Rattle.std.specs.Prelude.{ℕ, List, [], ◌∷◌, ◌++◌, Ok, Err}
 use Rattle.words.specs.Word.{pick}
 use Rattle.geometry.specs.declared.banks.Geometry.{Geometry}
 use Rattle.words.specs.declared.decline.Decline.{Decline}
-use Rattle.words.specs.Decline.{accepted_of, first_of}
+use Rattle.words.specs.Decline.{Verdict, accepted_of, first_of}
 use Rattle.device.specs.declared.record.Device.{Device}
-use Rattle.start_up.specs.declared.StartedUp.{StartedUp}
+use Rattle.start_up.specs.StartedUp.{StartedUp}
 use Rattle.device.specs.Record.{running, bfswap}
 use Rattle.common_declines.specs.CommonDecline.{common_decline_of}
 use Rattle.register_access.specs.Store.{store_of}
@@ -45,8 +45,8 @@ unfoldable pub start_up_stores : Device → List Access
 start_up_stores d = swap_stores d ++ access NVMCON2 set SWAPLOCK ∷ []
 
 -- declines 1, 3 and 5
-unfoldable pub start_up_decline_of : Geometry → Device → Decline
-start_up_decline_of g d = first_of (common_decline_of g d [] 0) (pick (running d) Decline.Running Decline.Accepted)
+unfoldable pub start_up_decline_of : Geometry → Device → Verdict
+start_up_decline_of g d = first_of (common_decline_of g d [] 0) (pick (running d) (Err Decline.Running) (Ok tt))
 
 unfoldable pub start_up_of : Geometry → Device → StartedUp
 start_up_of g d =

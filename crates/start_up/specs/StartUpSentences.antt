@@ -7,7 +7,7 @@ use Rattle.device.specs.declared.record.Device.{Device}
 use Rattle.device.specs.Record.{register_of}
 use Rattle.common_declines.specs.CommonDecline.{Usable, CommonDeclines}
 use Rattle.register_access.specs.Store.{store_of}
-use Rattle.start_up.specs.declared.StartedUp.{StartedUp}
+use Rattle.start_up.specs.StartedUp.{StartedUp}
 use Rattle.start_up.specs.StartUp.{start_up_of}
 
 -- the device after a store to register r

@@ -2,6 +2,8 @@
 #![tactic(auto)]
 
 ghost use Rattle.std.specs.Prelude.{◌≡◌};
+ghost use Rattle.register_access.specs.Store.{store_of};
+ghost use Rattle.start_up.specs.StartedUp.{started_up_from};
 ghost use Rattle.start_up.specs.StartUp.{start_up_decline_of, unlocked_of, swapped_of, start_up_of};
 
 use common_declines::common_decline::common_decline;
@@ -14,35 +16,34 @@ use register_access::store;
 use words::decline::Decline;
 use words::word::has;
 
-// The answer to a start-up. Where it is declined the device is as before.
-#[derive(Clone, Copy)]
-pub struct StartedUp {
-    pub decline: Decline,
-    pub device: Device,
-}
-
 #[tactic(auto, unfolding(crate::specs::StartUp::start_up_decline_of))]
-fn start_up_decline(g: Geometry, d: Device) -> Decline
+fn start_up_decline(g: Geometry, d: Device) -> Result<(), Decline>
     ensures { result ≡ start_up_decline_of g d }
 {
-    let decline = common_decline(g, d, Lent::Nothing, 0);
-    if !decline.is_accepted() {
-        return decline;
-    }
+    common_decline(g, d, Lent::Nothing, 0)?;
     if has(d.nvmcon.0, Nvmcon::WR) {
-        return Decline::Running;
+        return Err(Decline::Running);
     }
-    Decline::Accepted
+    Ok(())
+}
+
+// The device after a store; a store that is declined leaves it.
+fn stored(g: Geometry, d: Device, number: u32, form: u32, value: u32) -> Device
+    ensures { result ≡ (store_of g d number form value).device }
+{
+    match store(g, d, number, form, value) {
+        Ok(outcome) => outcome.device,
+        Err(_) => d,
+    }
 }
 
 // The device after the three key stores.
 pub fn unlocked(g: Geometry, d: Device) -> Device
     ensures { result ≡ unlocked_of g d }
 {
-    let first = store(g, d, NVMKEY, PLAIN, KEY1);
-    let second = store(g, first.device, NVMKEY, PLAIN, KEY2);
-    let third = store(g, second.device, NVMKEY, PLAIN, KEY3);
-    third.device
+    let first = stored(g, d, NVMKEY, PLAIN, KEY1);
+    let second = stored(g, first, NVMKEY, PLAIN, KEY2);
+    stored(g, second, NVMKEY, PLAIN, KEY3)
 }
 
 // The device after PFSWAP follows BFSWAP.
@@ -50,24 +51,17 @@ fn swapped(g: Geometry, d: Device) -> Device
     ensures { result ≡ swapped_of g d }
 {
     if has(d.nvmcon.0, Nvmcon::BFSWAP) {
-        let e = unlocked(g, d);
-        let s = store(g, e, Nvmcon::NUMBER, SET, Nvmcon::PFSWAP);
-        return s.device;
+        stored(g, unlocked(g, d), Nvmcon::NUMBER, SET, Nvmcon::PFSWAP)
+    } else {
+        d
     }
-    d
 }
 
 // The whole start-up.
 #[tactic(auto, unfolding(crate::specs::StartUp::start_up_of, crate::specs::StartUp::start_up_stores))]
-pub fn start_up(g: Geometry, d: Device) -> StartedUp
-    ensures { result ≡ start_up_of g d }
+pub fn start_up(g: Geometry, d: Device) -> Result<Device, Decline>
+    ensures { started_up_from d result ≡ start_up_of g d }
 {
-    let decline = start_up_decline(g, d);
-    if decline.is_accepted() {
-        let e = swapped(g, d);
-        let s = store(g, e, Nvmcon2::NUMBER, SET, Nvmcon2::SWAPLOCK);
-        let device = s.device;
-        return StartedUp { decline, device };
-    }
-    StartedUp { decline, device: d }
+    start_up_decline(g, d)?;
+    Ok(stored(g, swapped(g, d), Nvmcon2::NUMBER, SET, Nvmcon2::SWAPLOCK))
 }

@@ -21,7 +21,7 @@ use Rattle.device.specs.Builders.{with_con, with_launched}
 use Rattle.device.specs.Record.{no_operands}
 use Rattle.protection.specs.Protection.{pwp_of}
 use Rattle.nvmop.specs.Operation.{length_of}
-use Rattle.device.specs.declared.answer.Answer.{Answer}
+use Rattle.device.specs.Answer.{Answer}
 use Rattle.register_access.specs.Store.{store_of}
 use Rattle.register_access.proofs.AcceptedLaws.{AtRest}
 use Rattle.start_up.specs.StartUp.{access}

@@ -12,7 +12,7 @@ use Rattle.words.proofs.BitLaws.{true_not_false}
 use Rattle.words.proofs.PickLaws.{pick_both, and_both}
 use Rattle.geometry.specs.declared.banks.Geometry.{Geometry}
 use Rattle.device.specs.declared.record.Device.{Device}
-use Rattle.device.specs.declared.answer.Answer.{Answer}
+use Rattle.device.specs.Answer.{Answer}
 use Rattle.device.specs.Numbers.{NVMCON, NVMKEY, key1, plain, invert}
 use Rattle.device.specs.Record.{running, register_of, op_of}
 use Rattle.device.specs.State.{State}

@@ -2,6 +2,7 @@
 -- waits leaves the device at rest before the next store, and a turn at the place of the read, whose action is a step, is declined.
 -- Assumes nothing.
 use mathlib.Core.Path.{◌≡◌, refl, sym, ap, ◌∙◌}
+use Rattle.std.specs.Prelude.{Ok, Err}
 use mathlib.Core.Bool.{Bool, true, false, not, ◌&&◌}
 use mathlib.Core.List.{List, [], ◌∷◌, ◌++◌}
 use mathlib.Core.Logic.{◌⊎◌, inl, inr}
@@ -275,7 +276,7 @@ module _ (u : Fixed) where
           ∙ at_past.action
 
       -- so a turn is declined
-      pub declines : (sram : List ℕ) → (turn_of g p.state image sram p.place).decline ≡ pick (leb (length sram) most_sram) Decline.Idle Decline.Length
+      pub declines : (sram : List ℕ) → (turn_of g p.state image sram p.place).decline ≡ pick (leb (length sram) most_sram) (Err Decline.Idle) (Err Decline.Length)
       unfolding turn_decline_of common_decline_of lent_decline_up_to lengths_fit_of
       declines sram =
           let sound = stands.sound in
@@ -291,8 +292,8 @@ module _ (u : Fixed) where
             at_past.idle,
           ) (go (leb (length sram) most_sram))
         where
-          go : (t : Bool) → let lent = pick t Decline.Accepted Decline.Length in
-              first_of (first_of lent Decline.Accepted) Decline.Idle ≡ pick t Decline.Idle Decline.Length
+          go : (t : Bool) → let lent = pick t (Ok tt) (Err Decline.Length) in
+              first_of (first_of lent (Ok tt)) (Err Decline.Idle) ≡ pick t (Err Decline.Idle) (Err Decline.Length)
           go true = refl
           go false = refl
 
@@ -302,7 +303,7 @@ module _ (u : Fixed) where
           let (state, place) = (every_turn g p.state image sram p.place).declined off in
           ap (λ (s : State). at s (turned_of g image p sram).place) state ∙ ap (at p.state) place
         where
-          go : (t : Bool) → accepted_of (pick t Decline.Idle Decline.Length) ≡ false
+          go : (t : Bool) → accepted_of (pick t (Err Decline.Idle) (Err Decline.Length)) ≡ false
           go true = refl
           go false = refl
 
@@ -416,7 +417,7 @@ module _ (u : Fixed) where
     NewRuns t = (c : Cut) → Restarts g t c → Runs (restarted g t c) (not b) (new_bank u)
 
     abbrev pub Again : State → Type 0
-    Again t = (Update g t image × (Whole t → ⊥)) ⊎ (((start_of g t image).decline ≡ Decline.Sequence) × (Whole t × NewRuns t))
+    Again t = (Update g t image × (Whole t → ⊥)) ⊎ (((start_of g t image).decline ≡ Err Decline.Sequence) × (Whole t × NewRuns t))
 
     pub past_starts : (p : Position) → Past p → Again p.state
     past_starts p h = go (outcome there.phase (ap (λ (s : State). running s.device) (sym there.state) ∙ h.idle))

@@ -1,5 +1,6 @@
 -- Moves leave what turns leave, so what power-fail safety says of turns holds of them. Assumes nothing.
 use mathlib.Core.Path.{◌≡◌, refl, sym, ap, ◌∙◌}
+use Rattle.std.specs.Prelude.{Err}
 use mathlib.Core.Bool.{Bool, true, false, not, ◌&&◌}
 use mathlib.Core.Logic.{◌⊎◌, inl, inr}
 use mathlib.Core.List.{List, [], ◌∷◌}
@@ -83,7 +84,7 @@ module _ (g : Geometry) (image : List ℕ) (s : State) (update : Update g s imag
       go (here srams e) = waits_past u (at s 0) begins srams p e sram address waits
       go (past h) = true_not_false (sym (waits_runs g p.state sram address waits) ∙ h.idle)
 
-  numbered : (t : Bool) → number_of (pick t Decline.Idle Decline.Length) ≡ pick t 6 2
+  numbered : (t : Bool) → number_of (pick t (Err Decline.Idle) (Err Decline.Length)) ≡ pick t 6 2
   numbered true = refl
   numbered false = refl
 

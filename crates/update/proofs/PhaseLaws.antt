@@ -2,6 +2,7 @@
 -- leads to the next block or to the total.
 -- Assumes nothing.
 use mathlib.Core.Path.{◌≡◌, refl, sym, ap, ◌∙◌}
+use Rattle.std.specs.Prelude.{Ok}
 use mathlib.Core.Bool.{Bool, true, false, not}
 use mathlib.Core.List.{List, [], ◌∷◌}
 use mathlib.Core.Logic.{◌⊎◌, inl, inr}
@@ -15,7 +16,6 @@ use lib.Seq.{take-length}
 use borrow.Author.Tests.{eq-eqb, ne_eqb}
 use Rattle.words.specs.Word.{pick}
 use Rattle.words.specs.Quad.{put_quad}
-use Rattle.words.specs.declared.decline.Decline.{Decline}
 use Rattle.words.specs.Decline.{accepted_of}
 use Rattle.geometry.specs.Banks.{InRange, pages_of, page_quads_of, bank_words_of}
 use Rattle.geometry.proofs.SizeLaws.{in-range}
@@ -182,7 +182,7 @@ module _ (u : Fixed) where
           phase = phase;
         }
       where
-        opened : common_decline_of g d (length (pick b new old) ∷ length (pick b old new) ∷ []) (length sram) ≡ Decline.Accepted
+        opened : common_decline_of g d (length (pick b new old) ∷ length (pick b old new) ∷ []) (length sram) ≡ Ok tt
         opened = opens g d _ (length sram) listed (sound.first, (sound.other, tt)) short sound.possible
 
         leaves : (step_of g (placed b d old new) sram).state ≡ placed b (advance_of g d false).device old (put_quad new j words)

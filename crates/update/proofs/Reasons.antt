@@ -10,9 +10,9 @@ use Rattle.words.specs.Decline.{accepted_of}
 use Rattle.words.proofs.BitLaws.{true_not_false}
 use Rattle.words.proofs.PickLaws.{and_both}
 use Rattle.geometry.specs.declared.banks.Geometry.{Geometry}
-use Rattle.sequence.specs.declared.comparison.Reason.{Reason}
+use Rattle.sequence.specs.Comparison.{Reason}
 use Rattle.sequence.specs.Sequence.{sequence_index_of, valid_of}
-use Rattle.sequence.specs.declared.comparison.Comparison.{Comparison}
+use Rattle.sequence.specs.Comparison.{Comparison}
 use Rattle.sequence.specs.Comparison.{reason_number_of, compare_of}
 use Rattle.sequence.specs.Reasons.{ChosenBefore}
 use Rattle.sequence.proofs.ComparisonLaws.{comparisons}

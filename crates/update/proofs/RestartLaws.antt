@@ -28,7 +28,7 @@ use Rattle.device.specs.Record.{register_of, running, bfswap, pfswap, op_of, is_
 use Rattle.nvmop.specs.Operation.{length_of}
 use Rattle.protection.specs.Protection.{pwp_of}
 use Rattle.common_declines.specs.Possible.{possible_of}
-use Rattle.device.specs.declared.answer.Answer.{Answer}
+use Rattle.device.specs.Answer.{Answer}
 use Rattle.register_fields.specs.Fields.{con_takes_of}
 use Rattle.register_access.specs.Store.{has_form_of, store_decline_of, applied_of, accepted, store_accepted_of, store_of}
 use Rattle.launch.specs.ConStore.{launches_of, con_store_of}

@@ -1,6 +1,7 @@
 -- An accepted start is where the invariant holds, and a restarted sign whose new bank loses is where the same start is accepted again.
 -- Assumes nothing.
 use mathlib.Core.Path.{◌≡◌, refl, sym, ap, ◌∙◌}
+use Rattle.std.specs.Prelude.{Ok, Err}
 use mathlib.Core.Bool.{Bool, true, false, not, ◌&&◌, ◌||◌}
 use mathlib.Core.List.{List, [], ◌∷◌}
 use Prim.Native.Nat.{ℕ, ◌<◌}
@@ -61,10 +62,10 @@ unfolding start_of start_decline_of sequence_allows_of upper_free_of
 starts g s image h =
     let s0 = neither (common_decline_of g s.device (length s.one ∷ length s.two ∷ length image ∷ []) 0) _ h in
     let opened = ready g s.device (length s.one ∷ length s.two ∷ length image ∷ []) 0 s0.0 in
-    let s1 = passed (running s.device) Decline.Running _ refl s0.1 in
-    let s2 = held (lower_valid_of g s && (reset_keeps_of g s && (swaps_agree_of s && other_safe_of g s))) _ Decline.Sequence refl s1.1 in
-    let s3 = held (next_exists_of g s) _ Decline.LastSequence refl s2.1 in
-    let s4 = held (has_of s.device.nvmbwp.0 UBWPULOCK && ltb (pwp_of s.device) (program_bytes_of g)) Decline.Accepted Decline.Protection refl s3.1 in
+    let s1 = passed (running s.device) (Err Decline.Running) _ refl s0.1 in
+    let s2 = held (lower_valid_of g s && (reset_keeps_of g s && (swaps_agree_of s && other_safe_of g s))) _ (Err Decline.Sequence) refl s1.1 in
+    let s3 = held (next_exists_of g s) _ (Err Decline.LastSequence) refl s2.1 in
+    let s4 = held (has_of s.device.nvmbwp.0 UBWPULOCK && ltb (pwp_of s.device) (program_bytes_of g)) (Ok tt) (Err Decline.Protection) refl s3.1 in
     let c0 = and_both (lower_valid_of g s) _ s2.0 in
     let c1 = and_both (reset_keeps_of g s) _ c0.1 in
     let c2 = and_both (swaps_agree_of s) (other_safe_of g s) c1.1 in
@@ -189,7 +190,7 @@ module _ (u : Fixed) (f : Device) (new : List ℕ) where
       lower_is : lower_word_of g (placed b f old new) ≡ word_at old (sequence_index_of g)
       lower_is = lower_placed b f old new g started.boot
 
-      opened : common_decline_of g f (length (pick b new old) ∷ length (pick b old new) ∷ length image ∷ []) 0 ≡ Decline.Accepted
+      opened : common_decline_of g f (length (pick b new old) ∷ length (pick b old new) ∷ length image ∷ []) 0 ≡ Ok tt
       opened =
           let (first, other) = both_placed (λ (l : List ℕ). length l ≡ bank_words_of g) b old new old_long long in
           opens g f (length (pick b new old) ∷ length (pick b old new) ∷ length image ∷ []) 0 listed (first, (other, (image_long, tt))) (omega arith)
@@ -223,7 +224,7 @@ module _ (u : Fixed) (f : Device) (new : List ℕ) where
 
   pub declined_whole : length new ≡ bank_words_of g → chosen_of b (word_at old (sequence_index_of g)) (word_at new (sequence_index_of g)) ≡ not b
       → CanStart g b f
-      → (start_of g (placed b f old new) image).decline ≡ Decline.Sequence
+      → (start_of g (placed b f old new) image).decline ≡ Err Decline.Sequence
   unfolding start_of start_decline_of sequence_allows_of
   declined_whole long wins can =
       let (first, other) = both_placed (λ (l : List ℕ). length l ≡ bank_words_of g) b old new old_long long in

@@ -1,5 +1,6 @@
 -- The tests of an update start, one after another, are the paper's conditions, each judged after those before it. Assumes nothing.
 use Prim.Native.Nat.{ℕ, ◌+◌, ◌*◌, ◌-◌, ◌%◌, ◌<◌}
+use Rattle.std.specs.Prelude.{Ok, Err}
 use mathlib.Core.Path.{◌≡◌, refl, sym, ap, subst, ◌∙◌}
 use mathlib.Core.Bool.{Bool, true, false, not, ◌&&◌, or-true}
 use mathlib.Core.List.{List, [], ◌∷◌}
@@ -11,7 +12,7 @@ use borrow.Author.Tests.{eq-eqb, ne_eqb, ltb-true, lt-ltb}
 use Rattle.words.specs.Word.{pick, bit, any_below, has_of}
 use Rattle.words.specs.Quad.{word_at}
 use Rattle.words.specs.declared.decline.Decline.{Decline}
-use Rattle.words.specs.Decline.{number_of, accepted_of, first_of}
+use Rattle.words.specs.Decline.{Verdict, number_of, accepted_of, first_of}
 use Rattle.words.proofs.BitLaws.{true_not_false, has_bit}
 use Rattle.words.proofs.FirstLaws.{any_some, some_any}
 use Rattle.words.proofs.Numbers.{numbers}
@@ -29,7 +30,7 @@ use Rattle.common_declines.specs.CommonDecline.{common_decline_of, Usable, Commo
 use Rattle.common_declines.proofs.DeclineLaws.{usable, used, common_first, common_fixes}
 use Rattle.reads.proofs.StepsLaws.{same_equal, equal_same}
 use Rattle.resets.specs.Reset.{compared_of}
-use Rattle.update.specs.declared.start.Started.{Started}
+use Rattle.update.specs.Answers.{Started}
 use Rattle.update.specs.Actions.{total_of}
 use Rattle.update.specs.Start.{lower_word_of, other_word_of, clash_of, lower_valid_of, reset_keeps_of, swaps_agree_of, other_safe_of, sequence_allows_of}
 use Rattle.update.specs.Start.{next_exists_of, upper_free_of, start_decline_of, start_of}
@@ -166,14 +167,14 @@ module _ (g : Geometry) (s : State) (image : List ℕ) where
   abbrev own : Started
   own = start_of g s image
 
-  abbrev tests : Decline
+  abbrev tests : Verdict
   tests =
-      pick (running s.device) Decline.Running
+      pick (running s.device) (Err Decline.Running)
       (pick (sequence_allows_of g s)
       (pick (next_exists_of g s)
-      (pick (upper_free_of g s.device) Decline.Accepted Decline.Protection)
-      Decline.LastSequence)
-      Decline.Sequence)
+      (pick (upper_free_of g s.device) (Ok tt) (Err Decline.Protection))
+      (Err Decline.LastSequence))
+      (Err Decline.Sequence))
 
   same_number : number_of own.decline ≡ number_of (first_of (common_decline_of g s.device lent 0) tests)
   unfolding start_of start_decline_of

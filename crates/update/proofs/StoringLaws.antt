@@ -17,7 +17,7 @@ use Rattle.device.specs.declared.record.Device.{Device}
 use Rattle.device.specs.Registers.{WREN, NVMOP, SWAPLOCK}
 use Rattle.device.specs.Builders.{with_con, with_launched}
 use Rattle.device.specs.Record.{register_of, bfswap, is_open}
-use Rattle.device.specs.declared.answer.Answer.{Answer}
+use Rattle.device.specs.Answer.{Answer}
 use Rattle.register_fields.specs.Fields.{wanted_of, con_takes_of}
 use Rattle.register_access.specs.Store.{has_form_of, applied_of, accepted, store_accepted_of, store_of}
 use Rattle.launch.specs.ConStore.{con_store_of}

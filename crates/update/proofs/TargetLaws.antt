@@ -13,7 +13,7 @@ use borrow.Author.Tests.{lt-leb, le-ltb, lt-ltb, ltb-true, ltb-false}
 use Rattle.words.specs.Word.{pick, bit}
 use Rattle.words.specs.Quad.{blank_quad, quad_at}
 use Rattle.geometry.specs.declared.banks.Geometry.{Geometry}
-use Rattle.map.specs.declared.Location.{Location}
+use Rattle.map.specs.Windows.{Location}
 use Rattle.geometry.specs.Banks.{InRange, pages_of, page_bytes_of, page_quads_of, boot_quads_of, program_bytes_of, round_down_of}
 use Rattle.map.specs.Windows.{upper_boot, upper_program, window_start_of, window_bytes_of, located, locate_of, page_of, quad_index_of, in_second_of}
 use Rattle.geometry.proofs.SizeLaws.{Unit, quad_unit, page_unit}

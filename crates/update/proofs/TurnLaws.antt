@@ -2,6 +2,7 @@
 -- register and its step finds an operation running. So it leaves its position, or performs the action of its place and goes to the next.
 -- Assumes nothing.
 use mathlib.Core.Path.{◌≡◌, refl, sym, ap, ◌∙◌}
+use Rattle.std.specs.Prelude.{Ok, Err}
 use mathlib.Core.Bool.{Bool, true, false, ◌&&◌}
 use mathlib.Core.List.{List, [], ◌∷◌}
 use mathlib.Core.Logic.{◌⊎◌, inl, inr}
@@ -12,7 +13,7 @@ use lib.ListN.{length}
 use borrow.Author.Tests.{eqb-true, eq-eqb, ltb-true, lt-ltb, le-ltb, ne_eqb}
 use Rattle.words.specs.Word.{pick}
 use Rattle.words.specs.declared.decline.Decline.{Decline}
-use Rattle.words.specs.Decline.{accepted_of}
+use Rattle.words.specs.Decline.{Verdict, accepted_of}
 use Rattle.words.proofs.DeclineLaws.{neither}
 use Rattle.words.proofs.PickLaws.{pick_both}
 use Rattle.words.proofs.BitLaws.{true_not_false}
@@ -22,7 +23,7 @@ use Rattle.device.specs.declared.record.Device.{Device}
 use Rattle.device.specs.Record.{running}
 use Rattle.common_declines.specs.CommonDecline.{common_decline_of}
 use Rattle.common_declines.proofs.CommonDeclineLaws.{Ready, ready, opens}
-use Rattle.device.specs.declared.answer.Answer.{Answer}
+use Rattle.device.specs.Answer.{Answer}
 use Rattle.register_access.specs.Store.{may_store_of, store_accepted_of, store_of}
 use Rattle.register_access.proofs.AcceptedLaws.{store_carried}
 use Rattle.flash.specs.Step.{step_of}
@@ -38,15 +39,15 @@ use Rattle.update.specs.PowerFail.{Position, at, turned_of}
 use Rattle.update.proofs.FormLaws.{actions_formed, step_carried}
 
 -- an action that is not declined
-acts : (d : Device) (a : Action) → accepted_of (action_decline_of d a) ≡ true → action_decline_of d a ≡ Decline.Accepted
+acts : (d : Device) (a : Action) → accepted_of (action_decline_of d a) ≡ true → action_decline_of d a ≡ Ok tt
 acts d (Store r form value) h = go (may_store_of d r) h
   where
-    go : (t : Bool) → accepted_of (pick t Decline.Accepted Decline.Running) ≡ true → pick t Decline.Accepted Decline.Running ≡ Decline.Accepted
+    go : (t : Bool) → accepted_of (pick t (Ok (tt {0})) (Err Decline.Running)) ≡ true → pick t (Ok (tt {0})) (Err Decline.Running) ≡ Ok (tt {0})
     go true h = refl
     go false h = true_not_false (sym h)
 acts d Step h = go (running d) h
   where
-    go : (t : Bool) → accepted_of (pick t Decline.Accepted Decline.Idle) ≡ true → pick t Decline.Accepted Decline.Idle ≡ Decline.Accepted
+    go : (t : Bool) → accepted_of (pick t (Ok (tt {0})) (Err Decline.Idle)) ≡ true → pick t (Ok (tt {0})) (Err Decline.Idle) ≡ Ok (tt {0})
     go true h = refl
     go false h = true_not_false (sym h)
 
@@ -71,34 +72,34 @@ module _ (g : Geometry) (s : State) (image sram : List ℕ) (place : ℕ) where
   acting h e = go (ltb place (total_of g)) refl (rw e at (neither (common_decline_of g s.device lengths (length sram)) _ h).1)
     where
       go : (t : Bool) → ltb place (total_of g) ≡ t
-          → accepted_of (pick t (action_decline_of s.device (next_action_of g s image place)) Decline.Place) ≡ true
+          → accepted_of (pick t (action_decline_of s.device (next_action_of g s image place)) (Err Decline.Place)) ≡ true
           → (place < total_of g) × (accepted_of (action_decline_of s.device (next_action_of g s image place)) ≡ true)
       go true l k = (ltb-true place (total_of g) l, k)
       go false l k = true_not_false (sym k)
 
   -- its action is carried out
   carries : Ready g s.device lengths (length sram) → (a : Action) → Formed a → accepted_of (action_decline_of s.device a) ≡ true
-      → (perform_of g s sram a).decline ≡ Decline.Accepted
+      → (perform_of g s sram a).decline ≡ Ok tt
   unfolding store_accepted_of
   carries opened (Store r form value) ok h = go (may_store_of s.device r) refl h
     where
-      go : (t : Bool) → may_store_of s.device r ≡ t → accepted_of (pick t Decline.Accepted Decline.Running) ≡ true
-          → (store_of g s.device r form value).decline ≡ Decline.Accepted
+      go : (t : Bool) → may_store_of s.device r ≡ t → accepted_of (pick t (Ok tt) (Err Decline.Running)) ≡ true
+          → (store_of g s.device r form value).decline ≡ Ok tt
       go true may h =
           ap (λ (a : Answer). a.decline) (store_carried g s.device r form value opened.lent.listed opened.possible ok may)
-          ∙ pick_both (λ (a : Answer). a.decline ≡ Decline.Accepted) (eqb r 0) refl refl
+          ∙ pick_both (λ (a : Answer). a.decline ≡ Ok tt) (eqb r 0) refl refl
       go false may h = true_not_false (sym h)
   carries opened Step ok h = rest (running s.device) refl h
     where
-      rest : (t : Bool) → running s.device ≡ t → accepted_of (pick t Decline.Accepted Decline.Idle) ≡ true
-          → (step_of g s sram).decline ≡ Decline.Accepted
+      rest : (t : Bool) → running s.device ≡ t → accepted_of (pick t (Ok tt) (Err Decline.Idle)) ≡ true
+          → (step_of g s sram).decline ≡ Ok tt
       rest true e h =
           let banks = opened.lent.banks in
           ap (λ (a : After). a.decline)
           (step_carried g s sram opened.lent.listed (record { possible = opened.possible; first = banks.0; other = banks.1.0 }) opened.lent.room e)
       rest false e h = true_not_false (sym h)
 
-  accepts : Accepts → turn_decline_of g s image (length sram) place ≡ Decline.Accepted
+  accepts : Accepts → turn_decline_of g s image (length sram) place ≡ Ok tt
   unfolding turn_decline_of
   accepts h =
       let r = opened h in
@@ -106,7 +107,7 @@ module _ (g : Geometry) (s : State) (image sram : List ℕ) (place : ℕ) where
     where
       go : (t : Bool) → eqb place (total_of g) ≡ t
           → pick (ltb place (total_of g)) (action_decline_of s.device (next_action_of g s image place))
-          (pick t Decline.Accepted Decline.Place) ≡ Decline.Accepted
+          (pick t (Ok tt) (Err Decline.Place)) ≡ Ok tt
       go true e = rw (le-ltb place (total_of g) (omega (arith, eqb-true place (total_of g) e)))
       go false e = let (below, ok) = acting h e in rw (lt-ltb place (total_of g) below, acts s.device (next_action_of g s image place) ok)
 
@@ -120,16 +121,16 @@ module _ (g : Geometry) (s : State) (image sram : List ℕ) (place : ℕ) where
   unfolding turn_of
   answers_so = go (accepted_of (turn_decline_of g s image (length sram) place)) refl
     where
-      decline : Decline
+      decline : Verdict
       decline = turn_decline_of g s image (length sram) place
 
       go : (t : Bool) → accepted_of (turn_decline_of g s image (length sram) place) ≡ t
-          → (pick t (pick (eqb place (total_of g)) (turning Decline.Accepted true s place false) performing)
+          → (pick t (pick (eqb place (total_of g)) (turning (Ok tt) true s place false) performing)
           (turning decline false s place false)).decline ≡ decline
       go true h = at_total (eqb place (total_of g)) refl ∙ sym (accepts h)
         where
           at_total : (t : Bool) → eqb place (total_of g) ≡ t
-              → (pick t (turning Decline.Accepted true s place false) performing).decline ≡ Decline.Accepted
+              → (pick t (turning (Ok tt) true s place false) performing).decline ≡ Ok tt
           at_total true e = refl
           at_total false e = carries (opened h) (next_action_of g s image place) (actions_formed g image (lower_word_of g s) place) (acting h e).1
       go false h = refl
@@ -140,7 +141,7 @@ module _ (g : Geometry) (s : State) (image sram : List ℕ) (place : ℕ) where
   turn_done e = go (accepted_of (turn_decline_of g s image (length sram) place))
     where
       go : (t : Bool)
-          → let r = pick t (pick (eqb place (total_of g)) (turning Decline.Accepted true s place false) performing)
+          → let r = pick t (pick (eqb place (total_of g)) (turning (Ok tt) true s place false) performing)
           (turning (turn_decline_of g s image (length sram) place) false s place false) in at r.state r.place ≡ at s place
       go true = rw (eq-eqb place (total_of g) e)
       go false = refl
@@ -178,7 +179,7 @@ module _ (g : Geometry) (s : State) (image sram : List ℕ) (place : ℕ) where
       apart e = (ap (λ (p : Position). p.state) e, ap (λ (p : Position). p.place) e)
 
       done : (t u : Bool)
-          → (pick t (pick u (turning Decline.Accepted true s place false) performing)
+          → (pick t (pick u (turning (Ok tt) true s place false) performing)
           (turning (turn_decline_of g s image (length sram) place) false s place false)).done ≡ (t && u)
       done true true = refl
       done true false = refl
@@ -186,7 +187,7 @@ module _ (g : Geometry) (s : State) (image sram : List ℕ) (place : ℕ) where
 
   -- ---- with a short SRAM a turn is declined for its action alone, and at the total for nothing
   module _ (listed : in_range_of g ≡ true) (sound : Sound g s) (long : length image ≡ bank_words_of g) (short : length sram ≤ 16384) where
-    common : common_decline_of g s.device lengths (length sram) ≡ Decline.Accepted
+    common : common_decline_of g s.device lengths (length sram) ≡ Ok tt
     common = opens g s.device lengths (length sram) listed (sound.first, (sound.other, (long, tt))) short sound.possible
 
     pub turn_answers : place < total_of g → accepted_of (action_decline_of s.device (next_action_of g s image place)) ≡ true

@@ -1,5 +1,6 @@
 -- A turn is judged by its place and by the action that the list has there, and does that action. Assumes nothing.
 use Prim.Native.Nat.{ℕ, zero, suc, ◌+◌, ◌<◌}
+use Rattle.std.specs.Prelude.{Ok, Err}
 use mathlib.Core.Path.{◌≡◌, refl, sym, ap, subst, ◌∙◌}
 use mathlib.Core.Bool.{Bool, true, false}
 use mathlib.Core.List.{List, [], ◌∷◌}
@@ -11,7 +12,7 @@ use lib.ListN.{length, get_or}
 use borrow.Author.Tests.{eq-eqb, ne_eqb, lt-ltb, le-ltb, leb-true, le-leb}
 use Rattle.words.specs.Word.{pick, bit}
 use Rattle.words.specs.declared.decline.Decline.{Decline}
-use Rattle.words.specs.Decline.{number_of, accepted_of, first_of}
+use Rattle.words.specs.Decline.{Verdict, number_of, accepted_of, first_of}
 use Rattle.words.proofs.BitLaws.{true_not_false}
 use Rattle.words.proofs.Numbers.{numbers}
 use Rattle.words.proofs.PickLaws.{and_both}
@@ -69,8 +70,8 @@ module _ (g : Geometry) (s : State) (image sram : List ℕ) (place : ℕ) where
   abbrev next : Action
   next = next_action_of g s image place
 
-  abbrev tests : Decline
-  tests = pick (ltb place (total_of g)) (action_decline_of s.device next) (pick (eqb place (total_of g)) Decline.Accepted Decline.Place)
+  abbrev tests : Verdict
+  tests = pick (ltb place (total_of g)) (action_decline_of s.device next) (pick (eqb place (total_of g)) (Ok tt) (Err Decline.Place))
 
   same_number : number_of own.decline ≡ number_of (first_of (common_decline_of g s.device lent (length sram)) tests)
   unfolding turn_decline_of
@@ -117,7 +118,7 @@ module _ (g : Geometry) (s : State) (image sram : List ℕ) (place : ℕ) where
       → number_of own.decline ≡ number_of (action_decline_of s.device a)
   judged u l a e = by_action u l ∙ ap (λ (b : Action). number_of (action_decline_of s.device b)) (is_next l ∙ e)
 
-  done_so : (t : State) (event : Bool) → (decline : Decline) → number_of own.decline ≡ 0 → own ≡ turning decline false t (place + 1) event
+  done_so : (t : State) (event : Bool) → (decline : Verdict) → number_of own.decline ≡ 0 → own ≡ turning decline false t (place + 1) event
       → Done t place own × (own.event ≡ event)
   done_so t event decline ok e = (
     record {

@@ -2,9 +2,8 @@
 use Rattle.std.specs.Prelude.{ℕ, ◌≡◌, true, List, length, set, replicate}
 use Rattle.words.specs.Word.{all_ones}
 use Rattle.geometry.specs.declared.banks.Geometry.{Geometry}
-use Rattle.words.specs.declared.decline.Decline.{Decline}
 use Rattle.geometry.specs.Banks.{pages_of, bank_words_of}
-use Rattle.words.specs.Decline.{number_of, accepted_of}
+use Rattle.words.specs.Decline.{Verdict, number_of, accepted_of}
 use Rattle.sequence.specs.Sequence.{sequence_index_of}
 use Rattle.device.specs.Builders.{power_on}
 use Rattle.nvmop.specs.Bench as operation-bench
@@ -24,7 +23,7 @@ abbrev pub bench_state : ℕ → ℕ → State
 bench_state first second = state power_on (bench_bank first) (bench_bank second)
 
 -- the answer to an update start there, by the sequence words of bank 1, which is lower, and of bank 2
-abbrev pub bench_start : ℕ → ℕ → List ℕ → Decline
+abbrev pub bench_start : ℕ → ℕ → List ℕ → Verdict
 bench_start first second image = (start_of smallest (bench_state first second) image).decline
 
 pub record Bench : Type 0 where

@@ -1,5 +1,6 @@
 pub mod Actions
 pub mod Listed
+pub mod Answers
 pub mod Start
 pub mod Turn
 pub mod PowerFail

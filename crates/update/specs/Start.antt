@@ -1,12 +1,12 @@
 -- The update start: why it is declined, and what it gives. Assumes nothing.
-use Rattle.std.specs.Prelude.{ℕ, Bool, not, ◌&&◌, ◌||◌, List, [], ◌∷◌, eqb, ltb, length}
+use Rattle.std.specs.Prelude.{ℕ, Bool, not, ◌&&◌, ◌||◌, List, [], ◌∷◌, eqb, ltb, length, Ok, Err}
 use Rattle.std.specs.Int.Bits.{bit_and}
 use Rattle.words.specs.Word.{pick, has_of}
 use Rattle.words.specs.Quad.{word_at}
 use Rattle.geometry.specs.declared.banks.Geometry.{Geometry}
 use Rattle.words.specs.declared.decline.Decline.{Decline}
 use Rattle.geometry.specs.Banks.{program_bytes_of}
-use Rattle.words.specs.Decline.{accepted_of, first_of}
+use Rattle.words.specs.Decline.{Verdict, accepted_of, first_of}
 use Rattle.sequence.specs.Sequence.{sequence_index_of, tseq_of, cseq_of, valid_of}
 use Rattle.device.specs.declared.record.Device.{Device}
 use Rattle.device.specs.Registers.{UBWPULOCK}
@@ -17,7 +17,7 @@ use Rattle.reads.specs.Read.{same}
 use Rattle.resets.specs.Reset.{compared_of}
 use Rattle.bank_parts.specs.Parts.{lower_of}
 use Rattle.device.specs.State.{State}
-use Rattle.update.specs.declared.start.Started.{Started}
+use Rattle.update.specs.Answers.{Started}
 use Rattle.update.specs.Actions.{total_of}
 
 -- the sequence word of the lower-alias bank, whose low half is t, and that of the other bank
@@ -59,15 +59,15 @@ unfoldable pub upper_free_of : Geometry → Device → Bool
 upper_free_of g d = has_of d.nvmbwp.0 UBWPULOCK && ltb (pwp_of d) (program_bytes_of g)
 
 -- declines 1, 2, 3, 5, 10, 11 and 12, by the length of the image
-unfoldable pub start_decline_of : Geometry → State → ℕ → Decline
+unfoldable pub start_decline_of : Geometry → State → ℕ → Verdict
 start_decline_of g s image =
     first_of (common_decline_of g s.device (length s.one ∷ length s.two ∷ image ∷ []) 0)
-    (pick (running s.device) Decline.Running
+    (pick (running s.device) (Err Decline.Running)
     (pick (sequence_allows_of g s)
     (pick (next_exists_of g s)
-    (pick (upper_free_of g s.device) Decline.Accepted Decline.Protection)
-    Decline.LastSequence)
-    Decline.Sequence))
+    (pick (upper_free_of g s.device) (Ok tt) (Err Decline.Protection))
+    (Err Decline.LastSequence))
+    (Err Decline.Sequence)))
 
 -- "An accepted start changes nothing and gives place 0 and the total." Declined it gives 0 for both (ours)
 unfoldable pub start_of : Geometry → State → List ℕ → Started

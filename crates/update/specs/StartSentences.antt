@@ -9,7 +9,7 @@ use Rattle.sequence.specs.Comparison.{compare_of}
 use Rattle.device.specs.Record.{register_of}
 use Rattle.device.specs.State.{State, bank_of}
 use Rattle.common_declines.specs.CommonDecline.{Usable, CommonDeclines}
-use Rattle.update.specs.declared.start.Started.{Started}
+use Rattle.update.specs.Answers.{Started}
 use Rattle.update.specs.Start.{start_of}
 
 -- "Total 12 + 8×N + 112×N×Q."

@@ -1,9 +1,9 @@
 -- A turn: why it is declined, and what it does. Assumes nothing.
-use Rattle.std.specs.Prelude.{ℕ, ◌+◌, ◌<◌, ◌≡◌, Bool, true, false, ◌&&◌, List, [], ◌∷◌, eqb, ltb, length}
+use Rattle.std.specs.Prelude.{ℕ, ◌+◌, ◌<◌, ◌≡◌, Bool, true, false, ◌&&◌, List, [], ◌∷◌, eqb, ltb, length, Ok, Err}
 use Rattle.words.specs.Word.{pick}
 use Rattle.geometry.specs.declared.banks.Geometry.{Geometry}
 use Rattle.words.specs.declared.decline.Decline.{Decline}
-use Rattle.words.specs.Decline.{accepted_of, first_of}
+use Rattle.words.specs.Decline.{Verdict, accepted_of, first_of}
 use Rattle.device.specs.declared.record.Device.{Device}
 use Rattle.device.specs.Record.{running}
 use Rattle.common_declines.specs.CommonDecline.{common_decline_of}
@@ -11,8 +11,7 @@ use Rattle.register_access.specs.Store.{has_form_of, may_store_of, store_of}
 use Rattle.flash.specs.Step.{step_of}
 use Rattle.device.specs.State.{State, After, answered_of, state}
 use Rattle.flash.specs.Write.{written_of}
-use Rattle.update.specs.declared.turn.Turned.{Turned}
-use Rattle.update.specs.declared.turn.TurnEffect.{TurnEffect}
+use Rattle.update.specs.Answers.{Turned, TurnEffect}
 use Rattle.update.specs.declared.actions.Action.{Action}
 use Rattle.update.specs.declared.actions.Action.TheVariants.{Store, Step}
 use Rattle.update.specs.Actions.{action_at_of, total_of}
@@ -23,26 +22,26 @@ abbrev pub next_action_of : Geometry → State → List ℕ → ℕ → Action
 next_action_of g s image place = action_at_of g image (lower_word_of g s) place
 
 -- "a turn whose action is declined (5 or 6)"
-abbrev pub action_decline_of : Device → Action → Decline
-action_decline_of d (Store r form value) = pick (may_store_of d r) Decline.Accepted Decline.Running
-action_decline_of d Step = pick (running d) Decline.Accepted Decline.Idle
+abbrev pub action_decline_of : Device → Action → Verdict
+action_decline_of d (Store r form value) = pick (may_store_of d r) (Ok tt) (Err Decline.Running)
+action_decline_of d Step = pick (running d) (Ok tt) (Err Decline.Idle)
 
 -- declines 1, 2, 3, 5 or 6, and 13: "A turn whose place exceeds the total."
-unfoldable pub turn_decline_of : Geometry → State → List ℕ → ℕ → ℕ → Decline
+unfoldable pub turn_decline_of : Geometry → State → List ℕ → ℕ → ℕ → Verdict
 turn_decline_of g s image sram place =
     first_of (common_decline_of g s.device (length s.one ∷ length s.two ∷ length image ∷ []) sram)
     (pick (ltb place (total_of g)) (action_decline_of s.device (next_action_of g s image place))
-    (pick (eqb place (total_of g)) Decline.Accepted Decline.Place))
+    (pick (eqb place (total_of g)) (Ok tt) (Err Decline.Place)))
 
 -- everything after a turn
 pub record Turning : Type 0 where
-  pub decline : Decline
+  pub decline : Verdict
   pub done : Bool
   pub state : State
   pub place : ℕ
   pub event : Bool
 
-abbrev pub turning : Decline → Bool → State → ℕ → Bool → Turning
+abbrev pub turning : Verdict → Bool → State → ℕ → Bool → Turning
 turning decline done s place event = record { decline = decline; done = done; state = s; place = place; event = event }
 
 -- everything after an action that is carried out
@@ -69,7 +68,7 @@ act_of g s sram place a =
 unfoldable pub turn_of : Geometry → State → List ℕ → List ℕ → ℕ → Turning
 turn_of g s image sram place =
     pick (accepted_of (turn_decline_of g s image (length sram) place))
-    (pick (eqb place (total_of g)) (turning Decline.Accepted true s place false)
+    (pick (eqb place (total_of g)) (turning (Ok tt) true s place false)
     (performed place (perform_of g s sram (next_action_of g s image place))))
     (turning (turn_decline_of g s image (length sram) place) false s place false)
 

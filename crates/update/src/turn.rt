@@ -1,12 +1,10 @@
 // What a turn answers, and what it writes.
 use device::record::Device;
 use flash::write::Write;
-use words::decline::Decline;
 
-// The answer to a turn. Where it is declined, and at the total, everything is as before.
+// The answer to a turn. At the total everything is as before.
 #[derive(Clone, Copy)]
-pub struct Turned {
-    pub decline: Decline,
+pub struct TurnOutcome {
     pub done: bool,
     pub device: Device,
     pub place: u32,
@@ -15,7 +13,7 @@ pub struct Turned {
 
 // The answer, and at most one quad to write.
 #[derive(Clone, Copy)]
-pub struct TurnEffect {
-    pub turned: Turned,
+pub struct TurnChange {
+    pub outcome: TurnOutcome,
     pub write: Write,
 }

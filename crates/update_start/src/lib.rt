@@ -4,6 +4,7 @@
 ghost use Rattle.std.specs.Prelude.{◌≡◌, length};
 ghost use Rattle.geometry.specs.Banks.{InRange, bank_words_of};
 ghost use Rattle.device.specs.State.{lent};
+ghost use Rattle.update.specs.Answers.{started_from};
 ghost use Rattle.update.specs.Start.{clash_of, sequence_allows_of, upper_free_of, start_decline_of, start_of};
 
 use common_declines::common_decline::common_decline;
@@ -14,7 +15,7 @@ use geometry::lent::Lent;
 use protection::pwp;
 use resets::compared;
 use sequence::{cseq, is_valid, sequence_index, tseq};
-use update::start::Started;
+use update::start::UpdateStart;
 use update_actions::actions::total;
 use update_actions::lower_word::lower_word;
 use words::decline::Decline;
@@ -35,23 +36,13 @@ fn sequence_allows(g: Geometry, d: Device, one: &[u32], two: &[u32]) -> bool
     requires one_len { (length one.now ≡ bank_words_of g) × (length two.now ≡ bank_words_of g) }
     ensures { result ≡ sequence_allows_of g (lent d one.entry two.entry) }
 {
-    if !is_valid(lower_word(g, d, one, two)) {
-        return false;
-    }
     let bfswap = has(d.nvmcon.0, Nvmcon::BFSWAP);
-    let c = compared(g, one, two);
-    if c.second != bfswap {
-        return false;
-    }
-    if has(d.nvmcon.0, Nvmcon::PFSWAP) != bfswap {
-        return false;
-    }
     // the lower bank of the banks exchanged is the other bank
     let other = lower_word(g, d, two, one);
-    if is_valid(other) {
-        return true;
-    }
-    clashes(other)
+    is_valid(lower_word(g, d, one, two))
+        && compared(g, one, two).second == bfswap
+        && has(d.nvmcon.0, Nvmcon::PFSWAP) == bfswap
+        && (is_valid(other) || clashes(other))
 }
 
 // Whether decline 12 does not apply.
@@ -60,51 +51,49 @@ fn is_upper_free(g: Geometry, d: Device) -> bool
     requires { InRange g }
     ensures { result ≡ upper_free_of g d }
 {
-    if !has(d.nvmbwp.0, Nvmbwp::UBWPULOCK) {
-        return false;
-    }
-    pwp(d) < program_bytes(g)
+    has(d.nvmbwp.0, Nvmbwp::UBWPULOCK) && pwp(d) < program_bytes(g)
 }
 
-#[tactic(auto, unfolding(update::specs::Start::start_decline_of))]
-fn start_decline(g: Geometry, d: Device, one: &[u32], two: &[u32], image: usize) -> Decline
+#[tactic(auto, unfolding(update::specs::Start::start_decline_of), using(common_declines::proofs::CommonDeclineLaws::went_ready))]
+fn start_decline(
+    g: Geometry,
+    d: Device,
+    one: &[u32],
+    two: &[u32],
+    image: usize,
+) -> Result<(), Decline>
     ensures { result ≡ start_decline_of g (lent d one.entry two.entry) image }
 {
-    let decline = common_decline(g, d, Lent::BanksAndImage(one.len(), two.len(), image), 0);
-    if !decline.is_accepted() {
-        return decline;
-    }
+    common_decline(g, d, Lent::BanksAndImage(one.len(), two.len(), image), 0)?;
     if has(d.nvmcon.0, Nvmcon::WR) {
-        return Decline::Running;
+        return Err(Decline::Running);
     }
     if !sequence_allows(g, d, one, two) {
-        return Decline::Sequence;
+        return Err(Decline::Sequence);
     }
     if tseq(lower_word(g, d, one, two)) == 65535 {
-        return Decline::LastSequence;
+        return Err(Decline::LastSequence);
     }
     if !is_upper_free(g, d) {
-        return Decline::Protection;
+        return Err(Decline::Protection);
     }
-    Decline::Accepted
+    Ok(())
 }
 
 // Starts an update: it changes nothing.
 #[tactic(auto, unfolding(update::specs::Start::start_of))]
-pub fn start(g: Geometry, d: Device, one: &[u32], two: &[u32], image: &[u32]) -> Started
-    ensures { result ≡ start_of g (lent d one.entry two.entry) image.now }
+pub fn start(
+    g: Geometry,
+    d: Device,
+    one: &[u32],
+    two: &[u32],
+    image: &[u32],
+) -> Result<UpdateStart, Decline>
+    ensures { started_from result ≡ start_of g (lent d one.entry two.entry) image.now }
 {
-    let decline = start_decline(g, d, one, two, image.len());
-    if !decline.is_accepted() {
-        return Started {
-            decline,
-            place: 0,
-            total: 0,
-        };
-    }
-    Started {
-        decline,
+    start_decline(g, d, one, two, image.len())?;
+    Ok(UpdateStart {
         place: 0,
         total: total(g),
-    }
+    })
 }

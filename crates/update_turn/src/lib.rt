@@ -7,10 +7,11 @@ ghost use Rattle.geometry.specs.Banks.{in_range_of, bank_words_of};
 ghost use Rattle.device.specs.State.{state, lent};
 ghost use Rattle.common_declines.specs.Possible.{possible_of};
 ghost use Rattle.flash.specs.Write.{no_write, Fits};
+ghost use Rattle.update.specs.Answers.{turned_from, turn_effect_from};
 ghost use Rattle.update.specs.Turn.{Formed, act_of, turn_of, effected_of, turn_leaves};
 
 use common_declines::common_decline::common_decline;
-use device::answer::Answer;
+use device::outcome::Outcome;
 use device::record::Device;
 use device::registers::Nvmcon;
 use flash::step::step_effect;
@@ -19,48 +20,26 @@ use geometry::banks::Geometry;
 use geometry::lent::Lent;
 use register_access::{may_store, store_accepted};
 use update::actions::Action;
-use update::turn::{TurnEffect, Turned};
+use update::turn::{TurnChange, TurnOutcome};
 use update_actions::actions::{action_at, total};
 use update_actions::lower_word::lower_word;
 use words::decline::Decline;
 use words::word::has;
 
-// The effect of a turn that changes nothing.
-fn unchanged(decline: Decline, done: bool, d: Device, place: u32) -> TurnEffect
-    ensures { result ≡ record { turned = record { decline = decline; done = done; device = d; place = place; event = false }; write = no_write } }
-{
-    let turned = Turned {
-        decline,
-        done,
-        device: d,
-        place,
-        event: false,
-    };
-    TurnEffect {
-        turned,
-        write: no_write(),
-    }
-}
-
 // The effect of a turn whose action is carried out.
-fn going(answer: Answer, write: Write, place: u32) -> TurnEffect
+fn going(outcome: Outcome, write: Write, place: u32) -> TurnChange
     requires { place < 2000000 }
-    ensures { result ≡ record {
-      write = write;
-      turned =
-          record { decline = answer.decline; done = false; device = answer.device; place = place + 1; event = answer.event };
-    } }
+    ensures { result ≡ record { outcome = record { done = false; device = outcome.device; place = place + 1; event = outcome.event }; write = write } }
 {
-    let decline = answer.decline;
-    let device = answer.device;
-    let turned = Turned {
-        decline,
-        done: false,
-        device,
-        place: place + 1,
-        event: answer.event,
-    };
-    TurnEffect { turned, write }
+    TurnChange {
+        outcome: TurnOutcome {
+            done: false,
+            device: outcome.device,
+            place: place + 1,
+            event: outcome.event,
+        },
+        write,
+    }
 }
 
 // The effect of the action of a place, or its decline. No call of the updater: turn_effect judges the other declines first.
@@ -73,37 +52,36 @@ fn act(
     sram: &[u32],
     place: u32,
     action: Action,
-) -> TurnEffect
+) -> Result<TurnChange, Decline>
     requires g_value { in_range_of g ≡ true }
     requires d_value { possible_of g d ≡ true }
     requires one_len { (length one.now ≡ bank_words_of g) × (length two.now ≡ bank_words_of g) }
     requires sram_len_bound { length sram.now ≤ most_sram }
     requires formed { Formed action }
     requires place_bound { place < 2000000 }
-    ensures result_value { effected_of (lent d one.entry two.entry) result ≡ act_of g (lent d one.entry two.entry) sram.now place action }
-    ensures fits { Fits one.now two.now result.write }
+    ensures result_value { effected_of (lent d one.entry two.entry) (turn_effect_from d place result)
+        ≡ act_of g (lent d one.entry two.entry) sram.now place action }
+    ensures fits { Fits one.now two.now (turn_effect_from d place result).write }
 {
     match action {
         Action::Store(number, form, value) => {
             if !may_store(d, number) {
-                return unchanged(Decline::Running, false, d, place);
+                return Err(Decline::Running);
             }
-            going(store_accepted(g, d, number, form, value), no_write(), place)
+            Ok(going(store_accepted(g, d, number, form, value), no_write(), place))
         }
         Action::Step => {
             if !has(d.nvmcon.0, Nvmcon::WR) {
-                return unchanged(Decline::Idle, false, d, place);
+                return Err(Decline::Idle);
             }
             let e = step_effect(g, d, one, two, sram);
-            let answer = e.answer;
-            let write = e.write;
-            going(answer, write, place)
+            Ok(going(e.outcome, e.write, place))
         }
     }
 }
 
 // The effect of a turn: the action of its place and no other; done at the total and only there.
-#[tactic(auto, unfolding(update::specs::Turn::turn_of, update::specs::Turn::turn_decline_of, update::specs::Turn::act_of))]
+#[tactic(auto, unfolding(update::specs::Turn::turn_of, update::specs::Turn::turn_decline_of, update::specs::Turn::act_of), using(common_declines::proofs::CommonDeclineLaws::went_ready))]
 pub fn turn_effect(
     g: Geometry,
     d: Device,
@@ -112,22 +90,27 @@ pub fn turn_effect(
     image: &[u32],
     sram: &[u32],
     place: u32,
-) -> TurnEffect
-    ensures result_value { effected_of (lent d one.entry two.entry) result
+) -> Result<TurnChange, Decline>
+    ensures result_value { effected_of (lent d one.entry two.entry) (turn_effect_from d place result)
         ≡ turn_of g (lent d one.entry two.entry) image.now sram.now place }
-    ensures fits { Fits one.now two.now result.write }
+    ensures fits { Fits one.now two.now (turn_effect_from d place result).write }
 {
     let lent = Lent::BanksAndImage(one.len(), two.len(), image.len());
-    let decline = common_decline(g, d, lent, sram.len());
-    if !decline.is_accepted() {
-        return unchanged(decline, false, d, place);
-    }
+    common_decline(g, d, lent, sram.len())?;
     let total = total(g);
     if total < place {
-        return unchanged(Decline::Place, false, d, place);
+        return Err(Decline::Place);
     }
     if place == total {
-        return unchanged(Decline::Accepted, true, d, place);
+        return Ok(TurnChange {
+            outcome: TurnOutcome {
+                done: true,
+                device: d,
+                place,
+                event: false,
+            },
+            write: no_write(),
+        });
     }
     let action = action_at(g, image, lower_word(g, d, one, two), place);
     act(g, d, one, two, sram, place, action)
@@ -142,12 +125,11 @@ pub fn turn(
     image: &[u32],
     sram: &[u32],
     place: u32,
-) -> Turned
-    ensures { turn_leaves result one.new two.new
+) -> Result<TurnOutcome, Decline>
+    ensures { turn_leaves (turned_from d place result) one.new two.new
         ≡ turn_of g (state d one.old two.old) image.now sram.now place }
 {
-    let e = turn_effect(g, d, one, two, image, sram, place);
-    let write = e.write;
-    apply(one, two, write);
-    e.turned
+    let change = turn_effect(g, d, one, two, image, sram, place)?;
+    apply(one, two, change.write);
+    Ok(change.outcome)
 }

@@ -1,11 +1,13 @@
-// Why a call is declined, as one list for every layer.
+// Why a call is declined: one error for every layer.
 ghost use Rattle.std.specs.Prelude.{◌≡◌};
-ghost use Rattle.words.specs.Decline.{number_of, accepted_of};
+ghost use Rattle.words.specs.Decline.{number_of};
 
-#[derive(Clone, Copy)]
+use std::error::Error;
+use std::fmt;
+
+// 0 is the number of a call that is not declined.
+#[derive(Clone, Copy, Debug, PartialEq, Eq)]
 pub enum Decline {
-    // 0: the call is not declined.
-    Accepted,
     // 1: Q, B or P is outside its list or range.
     Geometry,
     // 2: a bank, an image or the SRAM has a wrong length.
@@ -54,10 +56,9 @@ pub enum Decline {
 impl Decline {
     // The paper's number of a decline.
     pub fn number(self) -> u32
-        ensures { result ≡ number_of self }
+        ensures { result ≡ number_of (Err self) }
     {
         match self {
-            Decline::Accepted => 0,
             Decline::Geometry => 1,
             Decline::Length => 2,
             Decline::Device => 3,
@@ -81,11 +82,12 @@ impl Decline {
             Decline::Lanes => 22,
         }
     }
+}
 
-    // Whether the call was carried out.
-    pub fn is_accepted(self) -> bool
-        ensures { result ≡ accepted_of self }
-    {
-        self.number() == 0
+impl fmt::Display for Decline {
+    fn fmt<W: fmt::Write>(&self, f: &mut fmt::Formatter<W>) -> fmt::Result {
+        write!(f, "declined as {}", self.number())
     }
 }
+
+impl Error for Decline {}

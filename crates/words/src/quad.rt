@@ -20,16 +20,7 @@ pub fn merge_quad(mask: [u32; 4], chosen: [u32; 4], other: [u32; 4]) -> [u32; 4]
 pub fn is_blank(quad: [u32; 4]) -> bool
     ensures { result ≡ is_blank_of quad }
 {
-    if quad[0] != 0xFFFF_FFFF {
-        return false;
-    }
-    if quad[1] != 0xFFFF_FFFF {
-        return false;
-    }
-    if quad[2] != 0xFFFF_FFFF {
-        return false;
-    }
-    quad[3] == 0xFFFF_FFFF
+    quad == [0xFFFF_FFFF; 4]
 }
 
 // The four words from word w on. Not a call of the device: its callers show that they lie in the slice.

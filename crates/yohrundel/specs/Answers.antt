@@ -5,18 +5,17 @@ use Rattle.words.specs.Decline.{number_of, accepted_of}
 use Rattle.geometry.specs.declared.banks.Geometry.{Geometry}
 use Rattle.geometry.specs.Banks.{page_words_of}
 use Rattle.device.specs.declared.record.Device.{Device}
-use Rattle.device.specs.declared.answer.Answer.{Answer}
-use Rattle.register_access.specs.declared.RegisterRead.{RegisterRead}
-use Rattle.start_up.specs.declared.StartedUp.{StartedUp}
-use Rattle.sequence.specs.declared.comparison.Comparison.{Comparison}
-use Rattle.sequence.specs.Comparison.{reason_number_of}
+use Rattle.device.specs.Answer.{Answer}
+use Rattle.register_access.specs.RegisterRead.{RegisterRead}
+use Rattle.start_up.specs.StartedUp.{StartedUp}
+use Rattle.sequence.specs.Comparison.{Comparison, reason_number_of}
 use Rattle.device.specs.State.{After, state}
 use Rattle.resets.specs.Reset.{Explained}
 use Rattle.reads.specs.Read.{Reading}
 use Rattle.bank_parts.specs.Parts.{lower_bank_decline_of, lower_of, lower_bank_of, page_decline_of}
 use Rattle.script_play.specs.declared.PlayLength.{PlayLength}
 use Rattle.script_play.specs.Play.{Playback}
-use Rattle.update.specs.declared.start.Started.{Started}
+use Rattle.update.specs.Answers.{Started}
 use Rattle.planner.specs.declared.plan.Planned.{Planned}
 use Rattle.sheet.specs.Sheet.{Given}
 use Rattle.script_write.specs.Script.{Writing}

@@ -1,6 +1,7 @@
 -- A call on the records that were gathered is the call on the list itself: it looks at the first n records only, and declines a list of more than 32.
 -- Assumes nothing.
 use Prim.Native.Nat.{ℕ, zero, suc, ◌*◌, ◌/◌, ◌%◌, ◌≤◌, ◌<◌}
+use Rattle.std.specs.Prelude.{Err}
 use mathlib.Core.Path.{◌≡◌, refl, sym, ap, ◌∙◌}
 use mathlib.Core.Bool.{Bool, true, false, not, ◌&&◌}
 use mathlib.Core.List.{List, [], ◌∷◌}
@@ -11,7 +12,7 @@ use lib.ListN.{length, get_or}
 use borrow.Author.Tests.{ltb-true, lt-ltb, le-ltb, lt-leb}
 use Rattle.words.specs.Word.{pick, first_from}
 use Rattle.words.specs.declared.decline.Decline.{Decline}
-use Rattle.words.specs.Decline.{accepted_of, first_of}
+use Rattle.words.specs.Decline.{Verdict, accepted_of, first_of}
 use Rattle.words.proofs.BitLaws.{true_not_false}
 use Rattle.words.proofs.FirstLaws.{first_below, first_is}
 use Rattle.words.proofs.DeclineLaws.{neither}
@@ -108,7 +109,7 @@ module _ (g : Geometry) (k : ℕ) (xs ys : List Sign) (n : ℕ) (queue : Queue) 
   banks_same words room = stand_alike (start_of xs) (start_of ys) (2 * n) words room start_same
 
   -- the decline
-  abbrev decline : List Sign → Decline
+  abbrev decline : List Sign → Verdict
   decline signs = row_decline_of g k signs n queue last (length store) (length image) (length sram)
 
   decline_same : decline xs ≡ decline ys
@@ -166,16 +167,16 @@ module _ (g : Geometry) (k : ℕ) (xs ys : List Sign) (n : ℕ) (queue : Queue) 
 
 -- ---- more than 32 records: declined, whatever they are
 
-row_declines : (first : Decline) → accepted_of (first_of first Decline.Row) ≡ false
-row_declines first = go (accepted_of (first_of first Decline.Row)) refl
+row_declines : (first : Verdict) → accepted_of (first_of first (Err Decline.Row)) ≡ false
+row_declines first = go (accepted_of (first_of first (Err Decline.Row))) refl
   where
-    go : (t : Bool) → accepted_of (first_of first Decline.Row) ≡ t → accepted_of (first_of first Decline.Row) ≡ false
-    go true e = true_not_false (sym (neither first Decline.Row e).1)
+    go : (t : Bool) → accepted_of (first_of first (Err Decline.Row)) ≡ t → accepted_of (first_of first (Err Decline.Row)) ≡ false
+    go true e = true_not_false (sym (neither first (Err Decline.Row) e).1)
     go false e = e
 
 module _ (g : Geometry) (k : ℕ) (xs : List Sign) (n : ℕ) (queue : Queue) (last : ℕ) (store image sram : List ℕ) (many : 32 < n) where
-  abbrev why : Decline
-  why = first_of (lent_decline_of g (length image ∷ []) (length sram)) Decline.Row
+  abbrev why : Verdict
+  why = first_of (lent_decline_of g (length image ∷ []) (length sram)) (Err Decline.Row)
 
   out_of_row : row_decline_of g k xs n queue last (length store) (length image) (length sram) ≡ why
   unfolding row_decline_of row_stands_of

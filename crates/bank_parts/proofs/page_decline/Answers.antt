@@ -5,5 +5,4 @@ use Rattle.geometry.proofs.LentLaws.{fits}
 use Rattle.bank_parts.proofs.page_decline.Goals as goal
 
 pub pages-requires : goal.pages-requires
-pages-requires c =
-    (fits _ _ _ (ap accepted_of (sym c.lent_decline-decline.ensures) ∙ sym c.is_accepted.ensures ∙ c.if-not-is_accepted.false)).range
+pages-requires c = (fits _ _ _ (ap accepted_of (sym c.lent_decline.ensures ∙ c.in_ok-lent_decline.was))).range

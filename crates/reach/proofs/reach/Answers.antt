@@ -1,7 +1,6 @@
 -- Declined, there is no difference to tell; accepted, both images are a bank long, so the pass compares every word.
 use Rattle.std.proofs.Common.{Bool, ◌≡◌, true, List, ℕ, [], ◌∷◌, ◌<◌, length, sym, ap, ◌∙◌, arith}
-use Rattle.words.specs.Decline.{accepted_of}
-use Rattle.words.specs.declared.decline.Decline.{Decline}
+use Rattle.words.specs.Decline.{Verdict, accepted_of}
 use Rattle.geometry.specs.declared.banks.Geometry.{Geometry}
 use Rattle.geometry.specs.Banks.{bank_words_of}
 use Rattle.geometry.proofs.LentLaws.{Fits, fits}
@@ -11,7 +10,7 @@ use Rattle.reach.specs.Reach.{difference_of, reach_decline_of, reach_of}
 use Rattle.reach.proofs.DifferenceLaws.{lowest_most}
 use Rattle.reach.proofs.reach.Goals as goal
 
-module _ (g : Geometry) (image other : List ℕ) (decline : Decline) (is : decline ≡ reach_decline_of g image other)
+module _ (g : Geometry) (image other : List ℕ) (decline : Verdict) (is : decline ≡ reach_decline_of g image other)
     (a : Bool) (asked : a ≡ accepted_of decline) (holds : a ≡ true) where
   accepted : accepted_of (reach_decline_of g image other) ≡ true
   accepted = ap accepted_of (sym is) ∙ sym asked ∙ holds

@@ -1,60 +1,58 @@
 -- Declined; read at once where the bank is free; and else read after the steps that remain.
-use Rattle.std.proofs.Common.{◌≡◌, ℕ, Bool, true, false, [], ◌∷◌, sym, ap, ◌∙◌, arith, rules}
-use Rattle.words.specs.declared.decline.Decline.{Decline}
+use Rattle.std.proofs.Common.{◌≡◌, ℕ, ◌<◌, Bool, true, false, [], ◌∷◌, sym, ap, ◌∙◌, arith}
 use Rattle.words.specs.Decline.{accepted_of}
 use Rattle.geometry.specs.declared.banks.Geometry.{Geometry}
-use Rattle.map.specs.Windows.{locate_of}
+use Rattle.geometry.specs.Banks.{InRange}
+use Rattle.map.specs.Windows.{Location, window_bytes_of, locate_of}
+use Rattle.map.proofs.WindowLaws.{stands}
 use Rattle.device.specs.declared.record.Device.{Device}
 use Rattle.device.specs.Record.{running}
-use Rattle.common_declines.proofs.CommonDeclineLaws.{Ready}
 use Rattle.flash.proofs.AcceptedLaws.{runs}
 use Rattle.flash.proofs.StepLaws.{step_accepts}
-use Rattle.reads.specs.Read.{free_of, flash_read_decline_of}
+use Rattle.reads.specs.Read.{free_of}
 use Rattle.reads.proofs.AcceptedLaws.{read_ready}
 use Rattle.reads.proofs.StepsLaws.{worked_on}
 use Rattle.reads.proofs.flash_read.Goals as goal
+use Rattle.reads.proofs.flash_read.Goals.{then-is_free, else-is_free}
 
--- what the first test tells
-opened : (g : Geometry) (d : Device) (one two sram address : ℕ) (x : Decline) (t : Bool) → x ≡ flash_read_decline_of g d one two sram address
-    → t ≡ accepted_of x → t ≡ true → Ready g d (one ∷ two ∷ []) sram × ((locate_of g address).inside ≡ true)
-opened g d one two sram address x t e k h = read_ready g d one two sram address (ap accepted_of (sym e) ∙ sym k ∙ h)
-
--- what the second tells: the bank is worked on
+-- the bank is worked on
 busy : (g : Geometry) (d : Device) (second t : Bool) → t ≡ free_of g d second → t ≡ false → running d ≡ true
 busy g d second t e h = worked_on g d second (sym e ∙ h)
 
-pub locate-requires : goal.locate-requires
-locate-requires c =
-    (opened _ _ _ _ _ _ _ _ c.flash_read_decline-decline.ensures c.is_accepted.ensures c.if-not-is_accepted.false).0.lent.range
+-- what was located lies in its window
+lies : (g : Geometry) (address : ℕ) (l : Location) → InRange g → l ≡ locate_of g address → (locate_of g address).inside ≡ true
+    → l.offset < window_bytes_of g l.program
+lies g address l ok e inside = rw e (stands g ok address inside).room
 
-pub is_free-requires : goal.is_free-requires
-is_free-requires c =
-    let r = (opened _ _ _ _ _ _ _ _ c.flash_read_decline-decline.ensures c.is_accepted.ensures c.if-not-is_accepted.false).0 in
-    record { in_range = r.lent.range; d_value = r.possible }
+pub is_free-requires-clause-in_range : goal.is_free-requires-clause-in_range
+is_free-requires-clause-in_range c = (read_ready _ _ _ _ _ _ (ap accepted_of c.in_ok-l.ensures.0)).0.lent.range
 
-pub given-requires : goal.given-requires
-given-requires c =
-    let (r, inside) = opened _ _ _ _ _ _ _ _ c.flash_read_decline-decline.ensures c.is_accepted.ensures c.if-not-is_accepted.false in
-    record { in_range = r.lent.range; one_len = (r.lent.banks.0, r.lent.banks.1.0); address_value = inside }
+pub is_free-requires-clause-d_value : goal.is_free-requires-clause-d_value
+is_free-requires-clause-d_value c = (read_ready _ _ _ _ _ _ (ap accepted_of c.in_ok-l.ensures.0)).0.possible
 
 pub length-requires : goal.length-requires
-length-requires c =
-    (opened _ _ _ _ _ _ _ _ c.flash_read_decline-decline.ensures c.is_accepted.ensures c.if-not-is_accepted.false).0.lent.range
+length-requires c = (read_ready _ _ _ _ _ _ (ap accepted_of c.in_ok-l.ensures.0)).0.lent.range
 
-pub overflow_sub-count : goal.overflow_sub-count
-overflow_sub-count c =
-    let r = (opened _ _ _ _ _ _ _ _ c.flash_read_decline-decline.ensures c.is_accepted.ensures c.if-not-is_accepted.false).0 in
+pub overflow_sub-length : goal.overflow_sub-length
+overflow_sub-length c =
+    let r = (read_ready _ _ _ _ _ _ (ap accepted_of c.in_ok-l.ensures.0)).0 in
     let run = runs c.args.g c.args.d r.lent.range r.possible (busy _ _ _ _ c.is_free.ensures c.if-is_free.false) in
     rw (c.length.ensures, c.op.ensures) (omega (arith, run.below))
 
 pub steps-waited-requires : goal.steps-waited-requires
 steps-waited-requires c =
-    let r = (opened _ _ _ _ _ _ _ _ c.flash_read_decline-decline.ensures c.is_accepted.ensures c.if-not-is_accepted.false).0 in
+    let r = (read_ready _ _ _ _ _ _ (ap accepted_of c.in_ok-l.ensures.0)).0 in
     step_accepts _ _ _ _ _ r (busy _ _ _ _ c.is_free.ensures c.if-is_free.false)
 
-pub given-requires-2 : goal.given-requires-2
-given-requires-2 c =
-    let (r, inside) = opened _ _ _ _ _ _ _ _ c.flash_read_decline-decline.ensures c.is_accepted.ensures c.if-not-is_accepted.false in
-    let one = r.lent.banks.0 in
-    let two = r.lent.banks.1.0 in
-    record { in_range = r.lent.range; one_len = (search (rules, one), search (rules, two)); address_value = inside }
+pub word_read-requires-clause-in_range : goal.word_read-requires-clause-in_range
+word_read-requires-clause-in_range c = (read_ready _ _ _ _ _ _ (ap accepted_of c.in_ok-l.ensures.0)).0.lent.range
+
+pub word_read-requires-clause-one_len : goal.word_read-requires-clause-one_len
+word_read-requires-clause-one_len c =
+    let r = (read_ready _ _ _ _ _ _ (ap accepted_of c.in_ok-l.ensures.0)).0 in
+    (c.if-is_free.auto.one ∙ r.lent.banks.0, c.if-is_free.auto.two ∙ r.lent.banks.1.0)
+
+pub word_read-requires-clause-room : goal.word_read-requires-clause-room
+word_read-requires-clause-room c =
+    let (r, inside) = read_ready _ _ _ _ _ _ (ap accepted_of c.in_ok-l.ensures.0) in
+    lies _ _ _ r.lent.range c.in_ok-l.ensures.1 inside

@@ -1,10 +1,10 @@
 -- The steps from the loop are those after the next step. That step is not declined, and while WR is 1 after it the one after it is not either.
-use Rattle.std.proofs.Common.{◌≡◌, ℕ, ◌-◌, ◌<◌, true, false, List, length, sym, ap, ◌∙◌, arith}
+use Rattle.std.proofs.Common.{◌≡◌, ℕ, ◌+◌, ◌-◌, ◌<◌, true, false, List, length, sym, ap, ◌∙◌, arith}
 use Rattle.words.specs.Decline.{accepted_of}
 use Rattle.geometry.specs.declared.banks.Geometry.{Geometry}
 use Rattle.device.specs.State.{State, After, state, leaves}
 use Rattle.device.specs.Record.{running}
-use Rattle.flash.specs.Step.{step_decline_of, step_of}
+use Rattle.flash.specs.Step.{advanced, step_decline_of, step_of}
 use Rattle.flash.proofs.StepLaws.{next_accepts}
 use Rattle.reads.specs.Read.{Stepped, stepped, steps_of}
 use Rattle.reads.proofs.StepsLaws.{on_of, next_step}
@@ -29,23 +29,26 @@ module _ (g : Geometry) (sram : List ℕ) (s : State) (a : After) (e : a ≡ ste
 
 pub returns-then-not-has : goal.returns-then-not-has
 returns-then-not-has c =
-    let l = c.loop-left in
+    let l = c.loop in
     let new = c.step_accepted-a.new in
-    ended c.args.g c.args.sram.now (state l.device l.one l.two) (leaves c.step_accepted-a.result new.one new.two) c.step_accepted-a.ensures l.left _
-    c.loop-left-test.true (sym c.has.ensures ∙ c.if-not-has.true) l.invariant.same
+    let r = c.step_accepted-a.result in
+    ended c.args.g c.args.sram.now (state l.device l.one l.two) (leaves (advanced r.device r.event) new.one new.two) c.step_accepted-a.ensures
+    (c.args.count - l.counter) _ (omega arith) (sym c.has.ensures ∙ c.if-not-has.true) l.invariant.same
 
-pub loop-left-preserved : goal.loop-left-preserved
-loop-left-preserved c =
-    let l = c.loop-left in
+pub loop-preserved : goal.loop-preserved
+loop-preserved c =
+    let l = c.loop in
     let new = c.step_accepted-a.new in
+    let r = c.step_accepted-a.result in
     let s = state l.device l.one l.two in
-    let a = leaves c.step_accepted-a.result new.one new.two in
+    let a = leaves (advanced r.device r.event) new.one new.two in
     let going = sym c.has.ensures ∙ c.if-not-has.false in
+    let left : c.args.count - (l.counter + 1) ≡ c.args.count - l.counter - 1 = omega arith in
     record {
-      same = more c.args.g c.args.sram.now s a c.step_accepted-a.ensures l.left _ c.loop-left-test.true going l.invariant.same;
+      same = rw left (more c.args.g c.args.sram.now s a c.step_accepted-a.ensures (c.args.count - l.counter) _ (omega arith) going l.invariant.same);
       going = again c.args.g c.args.sram.now s a c.step_accepted-a.ensures l.invariant.going going (omega arith) (omega arith);
     }
 
 pub returns : goal.returns
 unfolding steps_of
-returns c = let none : c.loop-left.left ≡ 0 = omega arith in rw none at c.loop-left.invariant.same
+returns c = let none : c.args.count - c.loop.counter ≡ 0 = omega arith in rw none at c.loop.invariant.same

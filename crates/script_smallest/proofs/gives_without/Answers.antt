@@ -1,5 +1,5 @@
 -- A turn plays the next record: it gives the number, or what was known stays.
-use Rattle.std.proofs.Common.{◌≡◌, ◌||◌, eqb, sym, ◌∙◌, add-one, arith}
+use Rattle.std.proofs.Common.{◌≡◌, ◌||◌, eqb, sym, ◌∙◌, add-one}
 use Rattle.words.specs.Decline.{number_of}
 use Rattle.script_smallest.specs.Smallest.{without_of}
 use Rattle.script_smallest.proofs.TrialLaws.{front_record, trying_next, given_now, as_before}
@@ -18,7 +18,5 @@ loop-k-preserved c =
     elim c.if-number.branch [
       | then-number w ↦ w.given-is ∙ given_now l.given n a.number (sym told ∙ w.if-number.true)
       | else-number w ↦ w.given-is ∙ as_before l.given n a.number (λ e. w.if-number.false (told ∙ e))
-    ] in record {
-      within = omega arith;
-      trying = rw (add-one l.k) (trying_next _ _ _ _ _ _ _ _ l.invariant.trying _ r _ c.play_record-a.ensures _ given);
-    }
+    ] in
+    rw (add-one l.k) (trying_next _ _ _ _ _ _ _ _ l.invariant _ r _ c.play_record-a.ensures _ given)

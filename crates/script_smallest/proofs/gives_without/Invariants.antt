@@ -1,16 +1,11 @@
--- The records so far are played, and it is known whether one of them gave the number. The measure is the records that are left.
-use Rattle.std.proofs.Common.{◌-◌, ◌*◌, ◌≤◌, take}
+-- The records so far are played, and it is known whether one of them gave the number.
+use Rattle.std.proofs.Common.{◌*◌, take}
 use Rattle.device.specs.State.{state}
 use Rattle.script_smallest.specs.Smallest.{without_of}
 use Rattle.script_smallest.proofs.TrialLaws.{Trying}
 use Rattle.script_smallest.proofs.gives_without.Given as goal
 
 abbrev pub invariant-loop-k : goal.invariant-loop-k
-invariant-loop-k l = record {
-  within : l.k ≤ l.count;
-  trying : Trying l.g l.sram (state l.initial.device l.initial.one l.initial.two) (take (8 * l.count) (without_of l.script l.removed)) l.number
-      (state l.device l.one l.two) l.given l.k;
-}
-
-abbrev pub decreases-loop-k : goal.decreases-loop-k
-decreases-loop-k l = l.count - l.k
+invariant-loop-k l =
+    Trying l.g l.sram (state l.initial.device l.initial.one l.initial.two) (take (8 * l.count) (without_of l.script l.removed)) l.number
+    (state l.device l.one l.two) l.given l.k

@@ -1,7 +1,6 @@
 -- The first play tells whether the number is given at all; where it is, records are dropped in the result buffer.
-use Rattle.std.proofs.Common.{◌∙◌}
 use Rattle.device.specs.State.{state}
-use Rattle.script_smallest.proofs.SearchLaws.{whole_put, not_found, found}
+use Rattle.script_smallest.proofs.SearchLaws.{not_found, found}
 use Rattle.script_smallest.proofs.search.Goals as goal
 
 pub returns-then-not-shows_without : goal.returns-then-not-shows_without
@@ -14,6 +13,5 @@ pub returns : goal.returns
 returns c =
     let a = c.args in
     let d = c.drop_records-records.ensures in
-    let put = c.put_front.ensures ∙ whole_put a.res.now a.script.now c.requires.res_len in
     found a.g a.sram.now (state a.d a.one.now a.two.now) a.number a.script.now a.res.now _ c.shows_without.ensures c.requires.script_len
-    c.if-not-shows_without.false _ _ _ put d.value d.script_after
+    c.if-not-shows_without.false _ _ _ c.copy_from_slice.ensures.after d.value d.script_after

@@ -1,14 +1,13 @@
 -- Where no decline before the play applies, the scratch banks and the result buffer are of the lengths that the search asks for.
 use Rattle.std.proofs.Common.{◌≡◌, ℕ, Bool, true, List, sym, ap, ◌∙◌}
-use Rattle.words.specs.declared.decline.Decline.{Decline}
-use Rattle.words.specs.Decline.{accepted_of}
+use Rattle.words.specs.Decline.{Verdict, accepted_of}
 use Rattle.geometry.specs.declared.banks.Geometry.{Geometry}
 use Rattle.device.specs.State.{State}
 use Rattle.script_smallest.specs.Smallest.{unplayed_decline_of}
 use Rattle.script_smallest.proofs.SearchLaws.{Opened, opened}
 use Rattle.script_smallest.proofs.smallest.Goals as goal
 
-opens : (g : Geometry) (s : State) (sram : ℕ) (script : List ℕ) (one two out : ℕ) (x : Decline) (t : Bool)
+opens : (g : Geometry) (s : State) (sram : ℕ) (script : List ℕ) (one two out : ℕ) (x : Verdict) (t : Bool)
     → x ≡ unplayed_decline_of g s sram script one two out → t ≡ accepted_of x → t ≡ true → Opened g s sram script one two out
 opens g s sram script one two out x t e k h = opened g s sram script one two out (ap accepted_of (sym e) ∙ sym k ∙ h)
 

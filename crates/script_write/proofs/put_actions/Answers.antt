@@ -6,9 +6,8 @@ use Rattle.script_write.proofs.put_actions.Goals as goal
 
 pub loop-place-preserved : goal.loop-place-preserved
 loop-place-preserved c =
-    let below : c.loop-place.place < total_of c.args.g = omega (arith, c.loop-place-test.true, c.total-count.ensures) in
+    let below : c.loop-place.place < total_of c.args.g = omega (arith, c.loop-place-test.true, c.total-place-end.ensures) in
     record {
-      within = omega arith;
       same_length = c.put_record.auto.out ∙ c.loop-place.invariant.same_length;
       written =
           rw (add-one c.loop-place.place, c.put_record.ensures, c.record_of.ensures, c.action_at-action.ensures, c.loop-place.invariant.written)
@@ -17,5 +16,6 @@ loop-place-preserved c =
 
 pub returns : goal.returns
 returns c =
-    let all : c.loop-place.place ≡ total_of c.args.g = omega (arith, c.loop-place-test.false, c.loop-place.invariant.within, c.total-count.ensures) in
+    let all : c.loop-place.place ≡ total_of c.args.g =
+    omega (arith, c.loop-place-test.false, c.loop-place.auto.place-end, c.total-place-end.ensures) in
     rw (all, put_all c.args.g c.args.image.now c.args.w) at c.loop-place.invariant.written

@@ -1,16 +1,9 @@
--- The records of the actions so far are in the buffer. The measure is the actions that are left.
-use Rattle.std.proofs.Common.{◌≡◌, ◌-◌, ◌≤◌, length}
+-- The records of the actions so far are in the buffer.
+use Rattle.std.proofs.Common.{◌≡◌, length}
 use Rattle.std.proofs.lemmas.List.Edits.{sets}
 use Rattle.script_write.proofs.ScriptLaws.{first_records}
 use Rattle.script_write.proofs.put_actions.Given as goal
 
 abbrev pub invariant-loop-place : goal.invariant-loop-place
 invariant-loop-place l =
-    record {
-      within : l.place ≤ l.count;
-      same_length : length l.out ≡ length l.fn.out;
-      written : l.out ≡ sets l.fn.out 0 (first_records l.g l.image l.w l.place);
-    }
-
-abbrev pub decreases-loop-place : goal.decreases-loop-place
-decreases-loop-place l = l.count - l.place
+    record { same_length : length l.out ≡ length l.fn.out; written : l.out ≡ sets l.fn.out 0 (first_records l.g l.image l.w l.place) }

@@ -1,7 +1,6 @@
 -- Accepted, the banks, the image and the buffer have the lengths that the writing asks for, and the script stands at the buffer's front.
-use Rattle.std.proofs.Common.{◌≡◌, ℕ, ◌≤◌, Bool, true, List, length, sym, ap, ◌∙◌, arith}
-use Rattle.words.specs.declared.decline.Decline.{Decline}
-use Rattle.words.specs.Decline.{accepted_of}
+use Rattle.std.proofs.Common.{◌≡◌, ℕ, ◌≤◌, Bool, true, List, length, sym, ap, ◌∙◌, arith, Ok}
+use Rattle.words.specs.Decline.{Verdict, accepted_of}
 use Rattle.geometry.specs.declared.banks.Geometry.{Geometry}
 use Rattle.device.specs.State.{State}
 use Rattle.update.specs.Actions.{total_of}
@@ -12,7 +11,7 @@ use Rattle.script_write.proofs.AcceptedLaws.{Holds, holds}
 use Rattle.std.proofs.lemmas.List.Edits.{sets}
 use Rattle.script_write.proofs.write_script.Goals as goal
 
-module _ (g : Geometry) (s : State) (image buffer : List ℕ) (r : Decline) (t : Bool)
+module _ (g : Geometry) (s : State) (image buffer : List ℕ) (r : Verdict) (t : Bool)
     (e : r ≡ write_script_decline_of g s image (length buffer)) (k : t ≡ accepted_of r) (h : t ≡ true) where
   accepted : accepted_of (write_script_decline_of g s image (length buffer)) ≡ true
   accepted = ap accepted_of (sym e) ∙ sym k ∙ h
@@ -21,7 +20,7 @@ module _ (g : Geometry) (s : State) (image buffer : List ℕ) (r : Decline) (t :
   fits = holds g s image (length buffer) accepted
 
   written : (w total : ℕ) (out : List ℕ) → w ≡ lower_word_of g s → out ≡ sets buffer 0 (script_of g image w) → total ≡ total_of g
-      → writing Decline.Accepted total out ≡ write_script_of g s image buffer
+      → writing (Ok tt) total out ≡ write_script_of g s image buffer
   unfolding write_script_of
   written w total out v o n =
       let room : length (script_of g image (lower_word_of g s)) ≤ length buffer =

@@ -1,11 +1,11 @@
 -- Start's decline comes first; then the buffer's length decides.
-use Rattle.std.proofs.Common.{◌≡◌, ℕ, ◌*◌, ◌<◌, ◌≤◌, Bool, true, List, sym, ap, ◌∙◌, arith}
+use Rattle.std.proofs.Common.{◌≡◌, ℕ, ◌*◌, ◌<◌, ◌≤◌, Bool, true, List, sym, ap, ◌∙◌, arith, Ok, Err}
 use borrow.Author.Tests.{le-leb, lt-leb}
 use Rattle.words.specs.declared.decline.Decline.{Decline}
 use Rattle.words.specs.Decline.{accepted_of}
 use Rattle.geometry.specs.declared.banks.Geometry.{Geometry}
 use Rattle.device.specs.State.{State}
-use Rattle.update.specs.declared.start.Started.{Started}
+use Rattle.update.specs.Answers.{Started}
 use Rattle.update.specs.Actions.{total_of}
 use Rattle.update.specs.Start.{start_of}
 use Rattle.script_write.specs.Script.{script_bytes_of, write_script_decline_of}
@@ -20,11 +20,11 @@ module _ (g : Geometry) (s : State) (image : List ℕ) (buffer : ℕ) (r : Start
   counted : r.total ≡ total_of g
   counted = ap (λ (x : Started). x.total) e ∙ start_total g s image opened
 
-  too_short : buffer < 8 * r.total → Decline.ScriptBuffer ≡ write_script_decline_of g s image buffer
+  too_short : buffer < 8 * r.total → (Err Decline.ScriptBuffer) ≡ write_script_decline_of g s image buffer
   unfolding write_script_decline_of
   too_short l = rw (opened, lt-leb (script_bytes_of g) buffer (omega (arith, l, counted)))
 
-  long_enough : 8 * r.total ≤ buffer → Decline.Accepted ≡ write_script_decline_of g s image buffer
+  long_enough : 8 * r.total ≤ buffer → (Ok tt) ≡ write_script_decline_of g s image buffer
   unfolding write_script_decline_of
   long_enough l = rw (opened, le-leb (script_bytes_of g) buffer (omega (arith, l, counted)))
 

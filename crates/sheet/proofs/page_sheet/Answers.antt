@@ -1,7 +1,6 @@
 -- Declined, nothing is written; accepted, there is room for both banks, the second after the first.
 use Rattle.std.proofs.Common.{◌≡◌, ◌*◌, ◌∙◌, sym, ap, arith, length, true, Bool}
-use Rattle.words.specs.declared.decline.Decline.{Decline}
-use Rattle.words.specs.Decline.{accepted_of}
+use Rattle.words.specs.Decline.{Verdict, accepted_of}
 use Rattle.geometry.specs.Banks.{pages_of}
 use Rattle.sheet.specs.Sheet.{sheet_bytes_of, page_sheet_of}
 use Rattle.sheet.proofs.AcceptedLaws.{holds}
@@ -9,7 +8,7 @@ use Rattle.sheet.proofs.PutLaws.{put_sheet}
 use Rattle.sheet.proofs.page_sheet.Goals as goal
 
 -- a call that went on is accepted
-went_on : {a : Bool} {r x : Decline} → r ≡ x → a ≡ accepted_of r → a ≡ true → accepted_of x ≡ true
+went_on : {a : Bool} {r x : Verdict} → r ≡ x → a ≡ accepted_of r → a ≡ true → accepted_of x ≡ true
 went_on e k h = ap accepted_of (sym e) ∙ sym k ∙ h
 
 pub returns-then-not-is_accepted : goal.returns-then-not-is_accepted

@@ -5,5 +5,4 @@ use Rattle.update.proofs.StartLaws.{start_range}
 use Rattle.update_start.proofs.start.Goals as goal
 
 pub total-requires : goal.total-requires
-total-requires c =
-    start_range _ _ _ (ap accepted_of (sym c.start_decline-decline.ensures) ∙ sym c.is_accepted.ensures ∙ c.if-not-is_accepted.false)
+total-requires c = start_range _ _ _ (ap accepted_of (sym c.start_decline.ensures ∙ c.in_ok-start_decline.was))

@@ -5,12 +5,12 @@ use Rattle.device.specs.Record.{running}
 use Rattle.device.specs.State.{state}
 use Rattle.register_access.specs.Store.{may_store_of}
 use Rattle.register_access.proofs.AcceptedLaws.{store_carried}
-use Rattle.flash.specs.declared.step.StepEffect.{StepEffect}
-use Rattle.flash.proofs.AcceptedLaws.{runs, advance_accepts}
+use Rattle.flash.specs.Step.{StepEffect, stepped_of}
+use Rattle.flash.proofs.AcceptedLaws.{runs}
 use Rattle.flash.proofs.EffectLaws.{effect_fits}
 use Rattle.controller.specs.Controller.{Sound}
-use Rattle.update.specs.declared.turn.TurnEffect.{TurnEffect}
-use Rattle.update.specs.Turn.{act_of}
+use Rattle.update.specs.declared.turn.TurnChange.{TurnChange}
+use Rattle.update.specs.Turn.{act_of, performed}
 use Rattle.update.proofs.FormLaws.{step_carried}
 use Rattle.update_turn.proofs.act.Goals as goal
 
@@ -29,7 +29,7 @@ returns-else-not-may_store-clause-result_value c =
       c.in-Store.is,
       may,
       store_carried a.g a.d _ _ _ c.requires.g_value c.requires.d_value formed may,
-      c.store_accepted.ensures,
+      ← c.store_accepted.ensures,
     )
 
 -- an operation runs
@@ -47,16 +47,14 @@ returns-else-not-has-clause-result_value c =
     let sound : Sound a.g s = record { possible = c.requires.d_value; first = c.requires.one_len.0; other = c.requires.one_len.1 } in
     rw (
       c.going-in-Step.ensures,
-      c.step_effect-e.ensures,
       c.in-Step.is,
       on,
       step_carried a.g s a.sram.now c.requires.g_value sound c.requires.sram_len_bound on,
-      advance_accepts,
-    )
+    ) (ap (λ (e : StepEffect). performed a.place (stepped_of s e)) c.step_effect-e.ensures)
 
 pub returns-else-not-has-clause-fits : goal.returns-else-not-has-clause-fits
 returns-else-not-has-clause-fits c =
     let a = c.args in
     let on : running a.d ≡ true = sym c.has.ensures ∙ c.if-not-has.false in
-    rw (ap (λ (e : TurnEffect). e.write) c.going-in-Step.ensures, ap (λ (e : StepEffect). e.write) c.step_effect-e.ensures)
+    rw (ap (λ (e : TurnChange). e.write) c.going-in-Step.ensures, ap (λ (e : StepEffect). e.write) c.step_effect-e.ensures)
     (effect_fits a.g (state a.d a.one.now a.two.now) a.sram.now (runs a.g a.d (in-range a.g c.requires.g_value) c.requires.d_value on) c.requires.one_len)

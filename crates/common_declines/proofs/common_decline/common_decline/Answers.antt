@@ -5,5 +5,4 @@ use Rattle.geometry.proofs.LentLaws.{fits}
 use Rattle.common_declines.proofs.common_decline.common_decline.Goals as goal
 
 pub is_possible-requires : goal.is_possible-requires
-is_possible-requires c =
-    (fits _ _ _ (ap accepted_of (sym c.lent_decline-decline.ensures) ∙ sym c.is_accepted.ensures ∙ c.if-not-is_accepted.false)).range
+is_possible-requires c = (fits _ _ _ (ap accepted_of (sym c.lent_decline.ensures ∙ c.in_ok-lent_decline.was))).range

@@ -31,18 +31,13 @@ returns-then-not-is_within c =
     let n = c.loop-number.number in
     sym
     (stays c.args.d (suc n) 11 (omega arith)
-    (tested c.args.d n _ _ _ c.loop-number.invariant.passed c.register.ensures c.is_within.ensures c.if-not-is_within.true))
+    (tested c.args.d n _ _ _ c.loop-number.invariant c.register.ensures c.is_within.ensures c.if-not-is_within.true))
 
 pub loop-number-preserved : goal.loop-number-preserved
 loop-number-preserved c =
-    let n = c.loop-number.number in
-    record {
-      within = omega arith;
-      passed =
-          rw add-one
-          (tested c.args.d n _ _ _ c.loop-number.invariant.passed c.register.ensures c.is_within.ensures c.if-not-is_within.false);
-    }
+    rw add-one
+    (tested c.args.d c.loop-number.number _ _ _ c.loop-number.invariant c.register.ensures c.is_within.ensures c.if-not-is_within.false)
 
 pub returns : goal.returns
 unfolding implemented_of
-returns c = let e : c.loop-number.number ≡ 11 = omega arith in sym (rw e at c.loop-number.invariant.passed)
+returns c = let e : c.loop-number.number ≡ 11 = omega arith in sym (rw e at c.loop-number.invariant)

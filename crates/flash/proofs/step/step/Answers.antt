@@ -1,33 +1,7 @@
--- Declined, or carried out and written: a step to which no decline applies runs, and its write lies in both banks.
+-- Declined, or carried out and written.
 use Rattle.std.proofs.Common.{sym, ap, ◌∙◌}
-use Rattle.device.specs.State.{state}
-use Rattle.flash.specs.declared.step.StepEffect.{StepEffect}
-use Rattle.flash.specs.Step.{step_of}
-use Rattle.flash.proofs.EffectLaws.{effect_fits}
-use Rattle.flash.proofs.AcceptedLaws.{advance_accepts, step_ready}
+use Rattle.words.specs.Decline.{accepted_of}
 use Rattle.flash.proofs.step.step.Goals as goal
 
-pub step_effect-e-requires-clause-runs : goal.step_effect-e-requires-clause-runs
-step_effect-e-requires-clause-runs c =
-    let accepted = rw c.step_decline-decline.ensures at (sym c.is_accepted.ensures ∙ c.if-not-is_accepted.false) in
-    (step_ready _ _ _ _ _ accepted).1
-
-pub step_effect-e-requires-clause-one_len : goal.step_effect-e-requires-clause-one_len
-step_effect-e-requires-clause-one_len c =
-    let accepted = rw c.step_decline-decline.ensures at (sym c.is_accepted.ensures ∙ c.if-not-is_accepted.false) in
-    let (ready, on, _) = step_ready _ _ _ _ _ accepted in
-    (ready.lent.banks.0, ready.lent.banks.1.0)
-
-pub apply-requires : goal.apply-requires
-apply-requires c =
-    let a = c.args in
-    let accepted = rw c.step_decline-decline.ensures at (sym c.is_accepted.ensures ∙ c.if-not-is_accepted.false) in
-    let (ready, on, _) = step_ready _ _ _ _ _ accepted in
-    rw (ap (λ (e : StepEffect). e.write) c.step_effect-e.ensures)
-    (effect_fits _ (state a.d a.one.now a.two.now) a.sram.now on (ready.lent.banks.0, ready.lent.banks.1.0))
-
-pub returns : goal.returns
-unfolding step_of
-returns c =
-    let accepted = rw c.step_decline-decline.ensures at (sym c.is_accepted.ensures ∙ c.if-not-is_accepted.false) in
-    rw (c.apply.ensures.0, c.apply.ensures.1, accepted, c.step_effect-e.ensures, advance_accepts)
+pub step_accepted-requires : goal.step_accepted-requires
+step_accepted-requires c = ap accepted_of (sym c.step_decline.ensures ∙ c.in_ok-step_decline.was)

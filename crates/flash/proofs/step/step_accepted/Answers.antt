@@ -1,10 +1,9 @@
 -- The effect of the step, and then its write: a step to which no decline applies runs, and its write lies in both banks.
-use Rattle.std.proofs.Common.{ap}
+use Rattle.std.proofs.Common.{ap, sym}
 use Rattle.device.specs.State.{state}
-use Rattle.flash.specs.declared.step.StepEffect.{StepEffect}
-use Rattle.flash.specs.Step.{step_of}
+use Rattle.flash.specs.Step.{StepEffect, stepped_of, step_of}
 use Rattle.flash.proofs.EffectLaws.{effect_fits}
-use Rattle.flash.proofs.AcceptedLaws.{advance_accepts, step_ready}
+use Rattle.flash.proofs.AcceptedLaws.{step_ready}
 use Rattle.flash.proofs.step.step_accepted.Goals as goal
 
 pub step_effect-e-requires-clause-runs : goal.step_effect-e-requires-clause-runs
@@ -24,4 +23,6 @@ apply-requires c =
 
 pub returns : goal.returns
 unfolding step_of
-returns c = rw (c.apply.ensures.0, c.apply.ensures.1, c.requires, c.step_effect-e.ensures, advance_accepts)
+returns c =
+    let a = c.args in
+    rw (c.apply.ensures.0, c.apply.ensures.1, c.requires) (ap (stepped_of (state a.d a.one.now a.two.now)) c.step_effect-e.ensures)
