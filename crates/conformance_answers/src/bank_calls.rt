@@ -3,7 +3,7 @@ use bank_parts::{lower_bank, lower_bank_decline, page, page_decline};
 use conformance_cases::{banks, geometry, list, sign};
 use conformance_io::banks::Banks;
 use conformance_lists::line::Line;
-use conformance_lists::no_outcome::{NoOutcome, accepted};
+use conformance_lists::no_outcome::NoOutcome;
 use device::registers::Nvmcon;
 use geometry::banks::page_words;
 use words::word::has;
@@ -26,7 +26,7 @@ pub fn lower_bank_outcome(line: &mut Line) -> Result<String, NoOutcome> {
     let (g, d) = sign(line)?;
     let banks = banks(line)?;
     line.end()?;
-    accepted(lower_bank_decline(g, d, &banks.one, &banks.two))?;
+    lower_bank_decline(g, d, &banks.one, &banks.two)?;
     let part = lower_bank(g, d, &banks.one, &banks.two);
     let is_swapped = has(d.nvmcon.0, Nvmcon::BFSWAP);
     let number = bank_number(part, &banks, is_swapped).ok_or(NoOutcome::NoCase)?;
@@ -39,7 +39,7 @@ pub fn page_outcome(line: &mut Line) -> Result<String, NoOutcome> {
     let bank = list(line)?;
     let number = line.number()?;
     line.end()?;
-    accepted(page_decline(g, &bank, number))?;
+    page_decline(g, &bank, number)?;
     let part = page(g, &bank, number);
     let start = number as usize * page_words(g) as usize;
     let rest = bank.get(start..).ok_or(NoOutcome::NoCase)?;

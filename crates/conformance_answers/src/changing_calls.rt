@@ -2,7 +2,7 @@
 use conformance_cases::{banks, list, sign};
 use conformance_io::records::DeviceNumbers;
 use conformance_lists::line::Line;
-use conformance_lists::no_outcome::{NoOutcome, accepted};
+use conformance_lists::no_outcome::NoOutcome;
 use flash::step::step;
 use reads::flash_read;
 use resets::reset;
@@ -14,8 +14,7 @@ pub fn flash_read_outcome(line: &mut Line) -> Result<String, NoOutcome> {
     let address = line.number()?;
     line.end()?;
     let mut banks = before.clone()?;
-    let given = flash_read(g, d, &mut banks.one, &mut banks.two, &sram, address);
-    accepted(given.decline)?;
+    let given = flash_read(g, d, &mut banks.one, &mut banks.two, &sram, address)?;
     let word = given.word;
     let event = u8::from(given.event);
     let device = DeviceNumbers::from(given.device);
@@ -29,8 +28,7 @@ pub fn step_outcome(line: &mut Line) -> Result<String, NoOutcome> {
     let sram = list(line)?;
     line.end()?;
     let mut banks = before.clone()?;
-    let given = step(g, d, &mut banks.one, &mut banks.two, &sram);
-    accepted(given.decline)?;
+    let given = step(g, d, &mut banks.one, &mut banks.two, &sram)?;
     let device = DeviceNumbers::from(given.device);
     let event = u8::from(given.event);
     let changes = banks.changes(line.alloc(), &before)?;
@@ -45,8 +43,7 @@ pub fn reset_outcome(line: &mut Line) -> Result<String, NoOutcome> {
     let mask = line.numbers::<4>()?;
     line.end()?;
     let mut banks = before.clone()?;
-    let given = reset(g, d, &mut banks.one, &mut banks.two, &sram, kind, mask);
-    accepted(given.decline)?;
+    let given = reset(g, d, &mut banks.one, &mut banks.two, &sram, kind, mask)?;
     let device = DeviceNumbers::from(given.device);
     let reason = given.reason.number();
     let changes = banks.changes(line.alloc(), &before)?;

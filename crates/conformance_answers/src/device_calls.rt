@@ -6,7 +6,7 @@ use common_declines::possible::is_possible;
 use conformance_cases::sign;
 use conformance_io::records::DeviceNumbers;
 use conformance_lists::line::Line;
-use conformance_lists::no_outcome::{NoOutcome, accepted};
+use conformance_lists::no_outcome::NoOutcome;
 use geometry::banks::{Geometry, in_range};
 use protection::is_protected;
 use register_access::{register_read, store};
@@ -57,8 +57,7 @@ pub fn store_outcome(line: &mut Line) -> Result<String, NoOutcome> {
     let (g, d) = sign(line)?;
     let [number, form, value] = line.numbers::<3>()?;
     line.end()?;
-    let given = store(g, d, number, form, value);
-    accepted(given.decline)?;
+    let given = store(g, d, number, form, value)?;
     let device = DeviceNumbers::from(given.device);
     let event = u8::from(given.event);
     Ok(format!(in line.alloc(); "0 {device} {event}")?)
@@ -68,8 +67,7 @@ pub fn register_read_outcome(line: &mut Line) -> Result<String, NoOutcome> {
     let (g, d) = sign(line)?;
     let number = line.number()?;
     line.end()?;
-    let given = register_read(g, d, number);
-    accepted(given.decline)?;
+    let given = register_read(g, d, number)?;
     let value = given.value;
     let device = DeviceNumbers::from(given.device);
     Ok(format!(in line.alloc(); "0 {value} {device}")?)
@@ -78,8 +76,6 @@ pub fn register_read_outcome(line: &mut Line) -> Result<String, NoOutcome> {
 pub fn start_up_outcome(line: &mut Line) -> Result<String, NoOutcome> {
     let (g, d) = sign(line)?;
     line.end()?;
-    let given = start_up(g, d);
-    accepted(given.decline)?;
-    let device = DeviceNumbers::from(given.device);
+    let device = DeviceNumbers::from(start_up(g, d)?);
     Ok(format!(in line.alloc(); "0 {device}")?)
 }

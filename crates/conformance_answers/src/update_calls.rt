@@ -2,7 +2,7 @@
 use conformance_cases::{banks, image_and_sram, list, sign};
 use conformance_io::records::DeviceNumbers;
 use conformance_lists::line::Line;
-use conformance_lists::no_outcome::{NoOutcome, accepted};
+use conformance_lists::no_outcome::NoOutcome;
 use update_start::start;
 use update_turn::turn;
 
@@ -11,8 +11,7 @@ pub fn update_start_outcome(line: &mut Line) -> Result<String, NoOutcome> {
     let banks = banks(line)?;
     let image = list(line)?;
     line.end()?;
-    let given = start(g, d, &banks.one, &banks.two, &image);
-    accepted(given.decline)?;
+    let given = start(g, d, &banks.one, &banks.two, &image)?;
     let place = given.place;
     let total = given.total;
     Ok(format!(in line.alloc(); "0 {place} {total}")?)
@@ -25,8 +24,7 @@ pub fn turn_outcome(line: &mut Line) -> Result<String, NoOutcome> {
     let place = line.number()?;
     line.end()?;
     let mut banks = before.clone()?;
-    let given = turn(g, d, &mut banks.one, &mut banks.two, &image, &sram, place);
-    accepted(given.decline)?;
+    let given = turn(g, d, &mut banks.one, &mut banks.two, &image, &sram, place)?;
     let done = u8::from(given.done);
     let device = DeviceNumbers::from(given.device);
     let place = given.place;

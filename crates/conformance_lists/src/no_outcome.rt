@@ -1,12 +1,13 @@
 // Why a call has no outcome for a line.
-ghost use Rattle.std.specs.Prelude.{◌≡◌, true, OnOk};
-ghost use Rattle.words.specs.Decline.{accepted_of};
+ghost use Rattle.conformance_lists.specs.declared.no_outcome.NoOutcome.TheVariants.{Declined, OutOfMemory};
+ghost use Rattle.std.specs.Prelude.{◌≡◌};
 
 use std::alloc::AllocError;
+use std::error::Error;
 use std::fmt;
 use words::decline::Decline;
 
-#[derive(Drop)]
+#[derive(Clone, Copy, Debug, PartialEq, Eq)]
 pub enum NoOutcome {
     /// The line is no case.
     NoCase,
@@ -26,19 +27,20 @@ impl fmt::Display for NoOutcome {
     }
 }
 
+impl Error for NoOutcome {}
+
 impl From<AllocError> for NoOutcome {
+    ghost from_gives = { λ _ why. why ≡ OutOfMemory };
+
     fn from(_e: AllocError) -> NoOutcome {
         NoOutcome::OutOfMemory
     }
 }
 
-/// Goes on where a call is not declined.
-pub fn accepted(decline: Decline) -> Result<(), NoOutcome>
-    ensures { OnOk result (accepted_of decline ≡ true) }
-{
-    if decline.is_accepted() {
-        Ok(())
-    } else {
-        Err(NoOutcome::Declined(decline))
+impl From<Decline> for NoOutcome {
+    ghost from_gives = { λ decline why. why ≡ Declined decline };
+
+    fn from(decline: Decline) -> NoOutcome {
+        NoOutcome::Declined(decline)
     }
 }
