@@ -1,5 +1,6 @@
 // The calls that lend no list: the comparison and the calls on the device alone.
-ghost use Rattle.std.specs.Prelude.{◌≤◌, eqb, IfSome};
+ghost use Rattle.std.specs.Prelude.{◌≤◌, eqb, IfErr, IfSome};
+ghost use Rattle.conformance_lists.specs.NoOutcome.{IsUndeclined};
 ghost use Rattle.words.specs.Word.{pick};
 
 use common_declines::possible::is_possible;
@@ -13,14 +14,18 @@ use register_access::{register_read, store};
 use sequence::comparison::compare;
 use start_up::start_up;
 
-pub fn compare_outcome(line: &mut Line) -> Result<String, NoOutcome> {
+pub fn compare_outcome(line: &mut Line) -> Result<String, NoOutcome>
+    ensures { IfErr result IsUndeclined }
+{
     let [first, second] = line.numbers::<2>()?;
     line.end()?;
     let bank = if compare(first, second).second { 2 } else { 1 };
     Ok(format!(in line.alloc(); "{bank}")?)
 }
 
-pub fn possible_outcome(line: &mut Line) -> Result<String, NoOutcome> {
+pub fn possible_outcome(line: &mut Line) -> Result<String, NoOutcome>
+    ensures { IfErr result IsUndeclined }
+{
     let (g, d) = sign(line)?;
     line.end()?;
     if !in_range(g) {
@@ -41,7 +46,9 @@ fn pages_of(g: Geometry, kind: u32) -> Option<u32>
     }
 }
 
-pub fn protected_outcome(line: &mut Line) -> Result<String, NoOutcome> {
+pub fn protected_outcome(line: &mut Line) -> Result<String, NoOutcome>
+    ensures { IfErr result IsUndeclined }
+{
     let (g, d) = sign(line)?;
     let [kind, side, page] = line.numbers::<3>()?;
     line.end()?;

@@ -19,7 +19,7 @@ const MASKS: [[u32; 4]; 6] = [
 
 // What a cut leaves: the bank that runs then and, where it is the old one, how a second start of the same update is
 // answered and which bank runs after that update, a power-on and a start-up.
-#[derive(Clone, Copy, Drop)]
+#[derive(Clone, Copy)]
 struct Cut {
     running: Option<Bank>,
     again: Option<Result<Option<Bank>, Decline>>,

@@ -1,6 +1,7 @@
 // Sums of words in their order, modulo a prime above every word: another word at one index is another sum.
 use crate::state::{Progress, State};
-use device::record::{Device, register};
+use conformance_io::records::DeviceNumbers;
+use device::record::Device;
 use std::fmt;
 
 const PRIME: u64 = 4294967311;
@@ -21,17 +22,8 @@ impl Sum {
         }
     }
 
-    // The registers by their numbers, the key step, the step number and what was launched, in the order of its registers.
     fn add_device(&mut self, d: Device) {
-        for number in 0..11 {
-            self.add(register(d, number));
-        }
-        self.add(d.keystep);
-        self.add(d.step);
-        let launched = d.launched;
-        self.add(launched.nvmaddr);
-        self.add_all(&launched.nvmdata);
-        self.add(launched.nvmsrcaddr);
+        self.add_all(&DeviceNumbers::from(d).0);
     }
 }
 

@@ -1,1 +1,2 @@
+pub mod Changes
 pub mod Records

@@ -1,4 +1,7 @@
 // Both banks, and what a call changed in them.
+ghost use Rattle.std.specs.Prelude.{◌≡◌, ◌++◌, OnOk, IfOk};
+ghost use Rattle.conformance_io.specs.Changes.{changes_from};
+
 use std::alloc::{AllocError, Global};
 use std::fmt;
 
@@ -42,9 +45,11 @@ fn push_changes(
     bank: u32,
     before: &[u32],
     now: &[u32],
-) -> Result<(), AllocError> {
-    for (index, (old, word)) in before.iter().zip(now).enumerate() {
-        if old != word {
+) -> Result<(), AllocError>
+    ensures { OnOk result (changes.new.items ≡ changes.old.items ++ changes_from bank 0 now.now before.now) }
+{
+    for (index, word) in now.iter().enumerate() {
+        if before.get(index) != Some(word) {
             changes.push(Change {
                 bank,
                 index,
@@ -57,7 +62,10 @@ fn push_changes(
 
 impl Banks {
     /// What changed since the banks were as `before`.
-    pub fn changes(&self, alloc: Global, before: &Banks) -> Result<Changes, AllocError> {
+    pub fn changes(&self, alloc: Global, before: &Banks) -> Result<Changes, AllocError>
+        ensures { IfOk result (λ changes. changes.0.items
+            ≡ changes_from 1 0 self.now.one.items before.now.one.items ++ changes_from 2 0 self.now.two.items before.now.two.items) }
+    {
         let mut changes = Vec::new(alloc);
         push_changes(&mut changes, 1, &before.one, &self.one)?;
         push_changes(&mut changes, 2, &before.two, &self.two)?;

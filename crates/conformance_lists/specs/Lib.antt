@@ -1,1 +1,2 @@
+pub mod NoOutcome
 pub mod Numbers

@@ -1,6 +1,8 @@
 // The words of a line. One blank stands between two.
-ghost use Rattle.std.specs.Prelude.{◌≡◌, ◌≤◌, IfOk, vec_len};
+ghost use Rattle.std.specs.Prelude.{◌≡◌, ◌≤◌, IfErr, IfOk, vec_len};
+ghost use Rattle.conformance_lists.specs.NoOutcome.{IsUndeclined};
 ghost use Rattle.conformance_lists.specs.Numbers.{number_of};
+ghost use Rattle.conformance_lists.specs.declared.no_outcome.NoOutcome.TheVariants.{NoCase};
 
 use crate::no_outcome::NoOutcome;
 use std::alloc::Global;
@@ -37,15 +39,21 @@ impl<'a> Line<'a> {
         self.alloc
     }
 
-    pub fn word(&mut self) -> Result<&'a str, NoOutcome> {
+    pub fn word(&mut self) -> Result<&'a str, NoOutcome>
+        ensures { IfErr result (λ why. why ≡ NoCase) }
+    {
         self.words.next().ok_or(NoOutcome::NoCase)
     }
 
-    pub fn number(&mut self) -> Result<u32, NoOutcome> {
+    pub fn number(&mut self) -> Result<u32, NoOutcome>
+        ensures { IfErr result (λ why. why ≡ NoCase) }
+    {
         number(self.word()?).ok_or(NoOutcome::NoCase)
     }
 
-    pub fn numbers<const N: usize>(&mut self) -> Result<[u32; N], NoOutcome> {
+    pub fn numbers<const N: usize>(&mut self) -> Result<[u32; N], NoOutcome>
+        ensures { IfErr result (λ why. why ≡ NoCase) }
+    {
         let mut numbers = [0; N];
         for number in &mut numbers {
             *number = self.number()?;
@@ -56,7 +64,8 @@ impl<'a> Line<'a> {
     /// A list: its length, the word that fills it, how many pairs follow, and the pairs, each an index and the word there.
     /// One of more than `most` words is no list.
     pub fn list(&mut self, most: usize) -> Result<Vec<u32>, NoOutcome>
-        ensures { IfOk result (λ words. vec_len words ≤ most) }
+        ensures ok { IfOk result (λ words. vec_len words ≤ most) }
+        ensures err { IfErr result IsUndeclined }
     {
         let [length, word, pairs] = self.numbers::<3>()?;
         if most < length as usize || length < pairs {
@@ -71,7 +80,9 @@ impl<'a> Line<'a> {
     }
 
     /// The end of the line: every word is read.
-    pub fn end(&mut self) -> Result<(), NoOutcome> {
+    pub fn end(&mut self) -> Result<(), NoOutcome>
+        ensures { IfErr result (λ why. why ≡ NoCase) }
+    {
         match self.words.next() {
             None => Ok(()),
             Some(_) => Err(NoOutcome::NoCase),
