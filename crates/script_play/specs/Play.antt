@@ -1,5 +1,5 @@
 -- A play: what each record does, and what is printed for it. Assumes nothing.
-use Rattle.std.specs.Prelude.{ℕ, zero, suc, List, [], ◌∷◌, ◌++◌, eqb, length, Ok, Err}
+use Rattle.std.specs.Prelude.{ℕ, zero, suc, List, [], ◌∷◌, ◌++◌, eqb, length, Ok, Err, Result}
 use Rattle.words.specs.Word.{pick}
 use Rattle.text.specs.Buffer.{put_first, saturated_of}
 use Rattle.text.specs.Lines.{line_of}
@@ -8,10 +8,10 @@ use Rattle.words.specs.declared.decline.Decline.{Decline}
 use Rattle.words.specs.Decline.{Verdict, number_of, accepted_of, first_of}
 use Rattle.device.specs.declared.record.Device.{Device}
 use Rattle.common_declines.specs.CommonDecline.{common_decline_of}
-use Rattle.device.specs.State.{State, After}
+use Rattle.device.specs.State.{State, After, state}
 use Rattle.controller.specs.Controller.{Operation}
 use Rattle.script_record.specs.Record.{mask_zero, record_after_of}
-use Rattle.script_play.specs.declared.PlayLength.{PlayLength}
+use Rattle.script_play.specs.declared.Playback as code
 use Rattle.script_format.specs.declared.Record.{Record}
 use Rattle.script_format.specs.Records.{record_of, records_of, is_script_of}
 
@@ -49,6 +49,12 @@ pub record Playback : Type 0 where
 abbrev pub playback : Verdict → ℕ → State → List ℕ → Playback
 playback decline bytes after buffer = record { decline = decline; bytes = bytes; after = after; buffer = buffer }
 
+-- in contracts: everything after a play from this device, with the banks and the buffer as they are then. Where it is declined the device is as
+-- before and the bytes are 0.
+abbrev pub playback_from : Device → Result code.Playback Decline → List ℕ → List ℕ → List ℕ → Playback
+playback_from d (Ok p) one two buffer = playback (Ok tt) p.bytes (state p.device one two) buffer
+playback_from d (Err e) one two buffer = playback (Err e) 0 (state d one two) buffer
+
 -- a script that is played: every record in its order. The buffer takes as much of the output's front as fits, and the bytes are those
 -- of the whole output (ours; `bytes_counted` of proofs/PlayLaws: exactly, of a script shorter than 2 ^ 62 bytes)
 abbrev pub played_of : Geometry → List ℕ → State → List ℕ → List ℕ → Playback
@@ -61,7 +67,17 @@ unfoldable pub play_of : Geometry → List ℕ → State → List ℕ → List �
 play_of g sram s script buffer =
     pick (accepted_of (decline_of g sram s script)) (played_of g sram s script buffer) (playback (decline_of g sram s script) 0 s buffer)
 
--- the answer and the bytes that a play will give: those of one with no buffer, as with any (ours; `play-length` of proofs/PlayLaws)
+-- the answer and the bytes that a play will give
+pub record PlayLength : Type 0 where
+  pub decline : Verdict
+  pub bytes : ℕ
+
+-- in contracts: those of a call's answer; the bytes are 0 where it is declined
+abbrev pub play_length_from : Result ℕ Decline → PlayLength
+play_length_from (Ok bytes) = record { decline = Ok tt; bytes = bytes }
+play_length_from (Err e) = record { decline = Err e; bytes = 0 }
+
+-- those of one with no buffer, as with any (ours; `play-length` of proofs/PlayLaws)
 unfoldable pub play_length_of : Geometry → List ℕ → State → List ℕ → PlayLength
 play_length_of g sram s script = record { decline = (play_of g sram s script []).decline; bytes = (play_of g sram s script []).bytes }
 

@@ -1,9 +1,9 @@
 // Playing a script on lent banks.
 #![tactic(auto)]
 
-ghost use Rattle.std.specs.Prelude.{◌≡◌};
+ghost use Rattle.std.specs.Prelude.{◌≡◌, Ok};
 ghost use Rattle.device.specs.State.{lent, state};
-ghost use Rattle.script_play.specs.Play.{play_decline_of, playback, played_of, play_of, play_length_of};
+ghost use Rattle.script_play.specs.Play.{play_decline_of, playback_from, played_of, play_of, play_length_from, play_length_of};
 
 use common_declines::common_decline::common_decline;
 use device::record::Device;
@@ -14,20 +14,11 @@ use script_record::play_record;
 use text::lines::{lines_length, write_line};
 use words::decline::Decline;
 
-// The answer to a play, and the bytes of its whole output: where the buffer is shorter, it holds the output's front.
-// Where the play is declined everything is as before.
+// The bytes of a play's whole output, and the device after it. Where the buffer is shorter, it holds the output's front.
 #[derive(Clone, Copy)]
-pub struct Played {
-    pub decline: Decline,
+pub struct Playback {
     pub bytes: usize,
     pub device: Device,
-}
-
-// The answer that a play will give, and the bytes of its whole output.
-#[derive(Clone, Copy)]
-pub struct PlayLength {
-    pub decline: Decline,
-    pub bytes: usize,
 }
 
 #[tactic(auto, unfolding(crate::specs::Play::play_decline_of))]
@@ -38,17 +29,14 @@ fn play_decline(
     two: usize,
     sram: usize,
     script: &[u8],
-) -> Decline
+) -> Result<(), Decline>
     ensures { result ≡ play_decline_of g d one two sram script.now }
 {
-    let decline = common_decline(g, d, Lent::Banks(one, two), sram);
-    if !decline.is_accepted() {
-        return decline;
-    }
+    common_decline(g, d, Lent::Banks(one, two), sram)?;
     if !is_script(script) {
-        return Decline::Script;
+        return Err(Decline::Script);
     }
-    Decline::Accepted
+    Ok(())
 }
 
 // Plays a script that is not declined: every record, each with its line.
@@ -60,22 +48,23 @@ fn play_accepted(
     sram: &[u32],
     script: &[u8],
     out: &mut [u8],
-) -> Played
-    ensures { playback result.decline result.bytes (state result.device one.new two.new) out.new
+) -> Playback
+    ensures { playback_from d (Ok result) one.new two.new out.new
         ≡ played_of g sram.now (state d one.old two.old) script.now out.old }
 {
     let mut device = d;
     let mut bytes = 0;
     for i in 0..script.len() / 8 {
-        let a = play_record(g, device, one, two, sram, record_at(script, i));
-        device = a.device;
-        bytes = write_line(out, bytes, i, a.decline.number(), device.nvmcon.0, a.event);
+        let (number, event) = match play_record(g, device, one, two, sram, record_at(script, i)) {
+            Ok(outcome) => {
+                device = outcome.device;
+                (0, outcome.event)
+            }
+            Err(decline) => (decline.number(), false),
+        };
+        bytes = write_line(out, bytes, i, number, device.nvmcon.0, event);
     }
-    Played {
-        decline: Decline::Accepted,
-        bytes,
-        device,
-    }
+    Playback { bytes, device }
 }
 
 // Plays a script on two banks and an SRAM from a device, with a line for each record in a buffer of any length.
@@ -88,19 +77,12 @@ pub fn play(
     sram: &[u32],
     script: &[u8],
     out: &mut [u8],
-) -> Played
-    ensures { playback result.decline result.bytes (state result.device one.new two.new) out.new
+) -> Result<Playback, Decline>
+    ensures { playback_from d result one.new two.new out.new
         ≡ play_of g sram.now (state d one.old two.old) script.now out.old }
 {
-    let decline = play_decline(g, d, one.len(), two.len(), sram.len(), script);
-    if !decline.is_accepted() {
-        return Played {
-            decline,
-            bytes: 0,
-            device: d,
-        };
-    }
-    play_accepted(g, d, one, two, sram, script, out)
+    play_decline(g, d, one.len(), two.len(), sram.len(), script)?;
+    Ok(play_accepted(g, d, one, two, sram, script, out))
 }
 
 // The bytes of the whole output of a play on the same inputs, so that a buffer can be lent that holds it.
@@ -112,15 +94,9 @@ pub fn play_length(
     two: &[u32],
     sram: &[u32],
     script: &[u8],
-) -> PlayLength
-    ensures { result ≡ play_length_of g sram.now (lent d one.entry two.entry) script.now }
+) -> Result<usize, Decline>
+    ensures { play_length_from result ≡ play_length_of g sram.now (lent d one.entry two.entry) script.now }
 {
-    let decline = play_decline(g, d, one.len(), two.len(), sram.len(), script);
-    if !decline.is_accepted() {
-        return PlayLength { decline, bytes: 0 };
-    }
-    PlayLength {
-        decline: Decline::Accepted,
-        bytes: lines_length(script.len() / 8),
-    }
+    play_decline(g, d, one.len(), two.len(), sram.len(), script)?;
+    Ok(lines_length(script.len() / 8))
 }

@@ -2,12 +2,12 @@
 #![tactic(auto)]
 
 ghost use Rattle.std.specs.Prelude.{◌≡◌, []};
-ghost use Rattle.script_play.specs.Play.{play_of};
+ghost use Rattle.script_play.specs.Play.{play_of, play_length_from};
 ghost use Rattle.script_program.specs.Program.{smallest, start_of, decline_line, printout, taken_of, written_of, print_of};
 
 use device::builders::power_on;
 use geometry::banks::Geometry;
-use script_play::{Played, play};
+use script_play::play;
 use text::buffer::put_front;
 use text::lines::{LINE_FEED, put_decimal};
 use words::decline::Decline;
@@ -24,16 +24,17 @@ const BANK: usize = 64;
 const SEQUENCE: usize = 28;
 
 // Plays a script after power-on on banks of all ones but bank 1's sequence word.
-fn play_after_power_on(script: &[u8], out: &mut [u8]) -> Played
-    ensures decline_value { result.decline ≡ (play_of smallest [] start_of script.now out.old).decline }
-    ensures out_after { printout result.bytes out.new ≡ taken_of (play_of smallest [] start_of script.now out.old) }
+fn play_after_power_on(script: &[u8], out: &mut [u8]) -> Result<usize, Decline>
+    ensures decline_value { (play_length_from result).decline ≡ (play_of smallest [] start_of script.now out.old).decline }
+    ensures out_after { printout (play_length_from result).bytes out.new ≡ taken_of (play_of smallest [] start_of script.now out.old) }
 {
     let g = Geometry { q: 1, b: 1, p: 1 };
     let mut one = [0xFFFF_FFFFu32; BANK];
     let mut two = [0xFFFF_FFFFu32; BANK];
     let sram = [0u32; 1];
     one[SEQUENCE] = 0xFFFE_0001;
-    play(g, power_on(), &mut one, &mut two, &sram[0..0], script, out)
+    let played = play(g, power_on(), &mut one, &mut two, &sram[0..0], script, out)?;
+    Ok(played.bytes)
 }
 
 // Writes the line of decline 14; gives its bytes.
@@ -54,10 +55,8 @@ pub fn print(script: &[u8], out: &mut [u8]) -> usize
     if LONGEST < script.len() {
         return print_decline(out);
     }
-    let a = play_after_power_on(script, out);
-    let decline = a.decline;
-    if decline.is_accepted() {
-        return a.bytes;
+    match play_after_power_on(script, out) {
+        Ok(bytes) => bytes,
+        Err(_) => print_decline(out),
     }
-    print_decline(out)
 }

@@ -3,17 +3,14 @@ use Prim.Native.Nat.{ℕ, ◌+◌, ◌*◌, ◌-◌, ◌<◌, ◌≤◌}
 use mathlib.Core.Path.{◌≡◌, sym, ap, ◌∙◌}
 use mathlib.Core.List.{List, ◌++◌, append_assoc}
 use native.Mathlib.Omega.{arith}
-use lib.ListN.{length, take, drop, replicate, length-append, replicate-append-replicate}
+use lib.ListN.{length, take, drop, replicate, replicate-append-replicate}
 use lib.Seq.{take-append-le, drop-append-le, take_at}
 use Rattle.script_format.specs.Records.{records_of}
 use Rattle.script_smallest.specs.Smallest.{without_of, with_zeros}
-use Rattle.script_smallest.proofs.WithoutLaws.{without_length, shorter}
+use Rattle.script_smallest.proofs.WithoutLaws.{shorter}
 
 abbrev pub removed_bytes : List ℕ → ℕ → List ℕ
 removed_bytes x i = without_of x i ++ replicate 8 0
-
-pub removed_length : (x : List ℕ) (i : ℕ) → 8 * i + 8 ≤ length x → length (removed_bytes x i) ≡ length x
-removed_length x i h = length-append (without_of x i) (replicate 8 0) ∙ omega (arith, without_length x i (omega (arith, h)), h)
 
 -- ---- in a buffer that holds a script and zeros
 

@@ -60,6 +60,11 @@ opened g s sram script scratch1 scratch2 result h =
       few = leb-true _ _ (held (leb (records_of script) 64) (Ok tt) (Err Decline.Records) refl few).0;
     }
 
+-- so where a function goes on with what they answer
+pub went_opened : {g : Geometry} {s : State} {sram : ℕ} {script : List ℕ} {scratch1 scratch2 result : ℕ} {r : Verdict}
+    → r ≡ unplayed_decline_of g s sram script scratch1 scratch2 result → r ≡ Ok tt → Opened g s sram script scratch1 scratch2 result
+went_opened e w = opened _ _ _ _ _ _ _ (ap accepted_of (sym e ∙ w))
+
 -- ---- the first play
 
 -- without a record past the last it is the script's

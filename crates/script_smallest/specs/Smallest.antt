@@ -1,5 +1,5 @@
 -- W-210: the smallest script that shows a decline. Assumes nothing.
-use Rattle.std.specs.Prelude.{ℕ, zero, suc, ◌+◌, ◌*◌, ◌-◌, Bool, not, ◌&&◌, List, [], ◌∷◌, ◌++◌, eqb, leb, ltb, length, take, drop, replicate, Ok, Err}
+use Rattle.std.specs.Prelude.{ℕ, zero, suc, ◌+◌, ◌*◌, ◌-◌, Bool, not, ◌&&◌, List, [], ◌∷◌, ◌++◌, eqb, leb, ltb, length, take, drop, replicate, Ok, Err, Result}
 use Rattle.words.specs.Word.{pick, any_below, first_from}
 use Rattle.words.specs.declared.decline.Decline.{Decline}
 use Rattle.words.specs.Decline.{Verdict, number_of, accepted_of, first_of}
@@ -71,6 +71,11 @@ with_zeros bytes n = bytes ++ replicate (n - length bytes) 0
 
 abbrev pub answer : Verdict → ℕ → List ℕ → List ℕ → List ℕ → Smallest
 answer decline records one two result = record { decline = decline; records = records; scratch_one = one; scratch_two = two; result = result }
+
+-- in contracts: everything after the call, with what is lent as it is then; the records are 0 where it is declined
+abbrev pub smallest_from : Result ℕ Decline → List ℕ → List ℕ → List ℕ → Smallest
+smallest_from (Ok records) one two result = answer (Ok tt) records one two result
+smallest_from (Err e) one two result = answer (Err e) 0 one two result
 
 -- "21, after it, the play never gives the number", with 0 records (ours); else what no record can go of
 unfoldable pub searched_of : Geometry → List ℕ → State → List ℕ → ℕ → List ℕ → Smallest

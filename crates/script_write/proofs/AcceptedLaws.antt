@@ -1,6 +1,6 @@
 -- What an accepted call tells: the start is accepted, and the buffer holds the script.
 -- Assumes nothing.
-use mathlib.Core.Path.{◌≡◌, refl}
+use mathlib.Core.Path.{◌≡◌, refl, sym, ap, ◌∙◌}
 use Rattle.std.specs.Prelude.{Ok, Err}
 use mathlib.Core.Bool.{true}
 use mathlib.Core.List.{List}
@@ -8,7 +8,7 @@ use Prim.Native.Nat.{ℕ, ◌≤◌}
 use lib.ListN.{length}
 use borrow.Author.Tests.{leb-true}
 use Rattle.words.specs.declared.decline.Decline.{Decline}
-use Rattle.words.specs.Decline.{accepted_of}
+use Rattle.words.specs.Decline.{Verdict, accepted_of}
 use Rattle.words.proofs.DeclineLaws.{held, neither}
 use Rattle.geometry.specs.declared.banks.Geometry.{Geometry}
 use Rattle.geometry.specs.Banks.{InRange, bank_words_of}
@@ -44,3 +44,8 @@ unfolding write_script_decline_of
 holds g s image buffer h =
     let (opened, fits) = neither (start_of g s image).decline _ h in
     record { sizes = sized g s image opened; room = leb-true _ _ (held _ (Ok tt) (Err Decline.ScriptBuffer) refl fits).0 }
+
+-- so where a function goes on with what they answer
+pub went_holds : {g : Geometry} {s : State} {image : List ℕ} {buffer : ℕ} {r : Verdict} → r ≡ write_script_decline_of g s image buffer → r ≡ Ok tt
+    → Holds g s image buffer
+went_holds e w = holds _ _ _ _ (ap accepted_of (sym e ∙ w))

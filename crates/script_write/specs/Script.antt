@@ -1,5 +1,5 @@
 -- W-202: the script of an update, and the call that writes it into a lent buffer. Assumes nothing.
-use Rattle.std.specs.Prelude.{ℕ, ◌*◌, List, [], ◌∷◌, ◌++◌, leb, length, drop, Ok, Err}
+use Rattle.std.specs.Prelude.{ℕ, ◌*◌, List, [], ◌∷◌, ◌++◌, leb, length, drop, Ok, Err, Result}
 use Rattle.words.specs.Word.{pick}
 use Rattle.words.specs.declared.decline.Decline.{Decline}
 use Rattle.words.specs.Decline.{Verdict, accepted_of, first_of}
@@ -36,6 +36,11 @@ pub record Writing : Type 0 where
 
 abbrev pub writing : Verdict → ℕ → List ℕ → Writing
 writing decline records buffer = record { decline = decline; records = records; buffer = buffer }
+
+-- in contracts: everything after the call, with the buffer as it is then; the records are 0 where it is declined
+abbrev pub writing_from : Result ℕ Decline → List ℕ → Writing
+writing_from (Ok records) buffer = writing (Ok tt) records buffer
+writing_from (Err e) buffer = writing (Err e) 0 buffer
 
 -- the buffer with the script in front: "bytes past the last record keep their contents"
 abbrev pub with_script : List ℕ → List ℕ → List ℕ

@@ -7,7 +7,7 @@ ghost use Rattle.std.proofs.lemmas.List.Edits.{sets};
 ghost use Rattle.geometry.specs.Banks.{InRange, bank_words_of};
 ghost use Rattle.device.specs.State.{lent};
 ghost use Rattle.update.specs.Actions.{recorded, total_of};
-ghost use Rattle.script_write.specs.Script.{script_of, write_script_decline_of, writing, write_script_of};
+ghost use Rattle.script_write.specs.Script.{script_of, write_script_decline_of, writing_from, write_script_of};
 
 use device::record::Device;
 use geometry::banks::Geometry;
@@ -20,13 +20,6 @@ use words::decline::Decline;
 
 // The bytes of a record.
 const RECORD_BYTES: usize = 8;
-
-// The answer, and how many records were written: 0 where the call is declined.
-#[derive(Clone, Copy)]
-pub struct ScriptWritten {
-    pub decline: Decline,
-    pub records: u32,
-}
 
 // The record of an action.
 fn record_of(action: Action) -> Record
@@ -72,22 +65,18 @@ fn write_script_decline(
     two: &[u32],
     image: &[u32],
     buffer: usize,
-) -> Decline
+) -> Result<(), Decline>
     ensures { result ≡ write_script_decline_of g (lent d one.entry two.entry) image.now buffer }
 {
-    let started = start(g, d, one, two, image);
-    let decline = started.decline;
-    if !decline.is_accepted() {
-        return decline;
-    }
+    let started = start(g, d, one, two, image)?;
     if buffer < RECORD_BYTES * started.total as usize {
-        return Decline::ScriptBuffer;
+        return Err(Decline::ScriptBuffer);
     }
-    Decline::Accepted
+    Ok(())
 }
 
-// Writes every action of an update that may start as a record; the bytes after the last record stay.
-#[tactic(auto, unfolding(crate::specs::Script::write_script_of))]
+// Writes every action of an update that may start as a record, and gives their number; the bytes after the last record stay.
+#[tactic(auto, unfolding(crate::specs::Script::write_script_of), using(crate::proofs::AcceptedLaws::went_holds))]
 pub fn write_script(
     g: Geometry,
     d: Device,
@@ -95,20 +84,11 @@ pub fn write_script(
     two: &[u32],
     image: &[u32],
     out: &mut [u8],
-) -> ScriptWritten
-    ensures { writing result.decline result.records out.new
+) -> Result<u32, Decline>
+    ensures { writing_from result out.new
         ≡ write_script_of g (lent d one.entry two.entry) image.now out.old }
 {
-    let decline = write_script_decline(g, d, one, two, image, out.len());
-    if !decline.is_accepted() {
-        return ScriptWritten {
-            decline,
-            records: 0,
-        };
-    }
+    write_script_decline(g, d, one, two, image, out.len())?;
     put_actions(out, g, image, lower_word(g, d, one, two));
-    ScriptWritten {
-        decline: Decline::Accepted,
-        records: total(g),
-    }
+    Ok(total(g))
 }

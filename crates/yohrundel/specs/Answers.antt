@@ -13,8 +13,7 @@ use Rattle.device.specs.State.{After, state}
 use Rattle.resets.specs.Reset.{Explained}
 use Rattle.reads.specs.Read.{Reading}
 use Rattle.bank_parts.specs.Parts.{lower_bank_decline_of, lower_of, lower_bank_of, page_decline_of}
-use Rattle.script_play.specs.declared.PlayLength.{PlayLength}
-use Rattle.script_play.specs.Play.{Playback}
+use Rattle.script_play.specs.Play.{Playback, PlayLength}
 use Rattle.update.specs.Answers.{Started}
 use Rattle.planner.specs.declared.plan.Planned.{Planned}
 use Rattle.sheet.specs.Sheet.{Given}

@@ -1,21 +1,21 @@
 -- Start's decline comes first; then the buffer's length decides.
-use Rattle.std.proofs.Common.{◌≡◌, ℕ, ◌*◌, ◌<◌, ◌≤◌, Bool, true, List, sym, ap, ◌∙◌, arith, Ok, Err}
+use Rattle.std.proofs.Common.{◌≡◌, ℕ, ◌*◌, ◌<◌, ◌≤◌, true, List, sym, ap, ◌∙◌, arith, Ok, Err}
 use borrow.Author.Tests.{le-leb, lt-leb}
 use Rattle.words.specs.declared.decline.Decline.{Decline}
 use Rattle.words.specs.Decline.{accepted_of}
 use Rattle.geometry.specs.declared.banks.Geometry.{Geometry}
 use Rattle.device.specs.State.{State}
-use Rattle.update.specs.Answers.{Started}
+use Rattle.update.specs.declared.start.UpdateStart.{UpdateStart}
+use Rattle.update.specs.Answers.{Started, started_from}
 use Rattle.update.specs.Actions.{total_of}
 use Rattle.update.specs.Start.{start_of}
 use Rattle.script_write.specs.Script.{script_bytes_of, write_script_decline_of}
 use Rattle.script_write.proofs.AcceptedLaws.{start_total}
 use Rattle.script_write.proofs.write_script_decline.Goals as goal
 
-module _ (g : Geometry) (s : State) (image : List ℕ) (buffer : ℕ) (r : Started) (t : Bool) (e : r ≡ start_of g s image)
-    (k : t ≡ accepted_of r.decline) (h : t ≡ true) where
+module _ (g : Geometry) (s : State) (image : List ℕ) (buffer : ℕ) (r : UpdateStart) (e : started_from (Ok r) ≡ start_of g s image) where
   opened : accepted_of (start_of g s image).decline ≡ true
-  opened = ap (λ (x : Started). accepted_of x.decline) (sym e) ∙ sym k ∙ h
+  opened = ap (λ (x : Started). accepted_of x.decline) (sym e)
 
   counted : r.total ≡ total_of g
   counted = ap (λ (x : Started). x.total) e ∙ start_total g s image opened
@@ -29,8 +29,7 @@ module _ (g : Geometry) (s : State) (image : List ℕ) (buffer : ℕ) (r : Start
   long_enough l = rw (opened, le-leb (script_bytes_of g) buffer (omega (arith, l, counted)))
 
 pub returns-then-buffer-started : goal.returns-then-buffer-started
-returns-then-buffer-started c =
-    too_short _ _ _ _ _ _ c.start-started.ensures c.is_accepted.ensures c.if-not-is_accepted.false c.if-buffer-started.true
+returns-then-buffer-started c = too_short _ _ _ _ _ c.in_ok-started.ensures c.if-buffer-started.true
 
 pub returns : goal.returns
-returns c = long_enough _ _ _ _ _ _ c.start-started.ensures c.is_accepted.ensures c.if-not-is_accepted.false c.if-buffer-started.false
+returns c = long_enough _ _ _ _ _ c.in_ok-started.ensures c.if-buffer-started.false

@@ -1,29 +1,21 @@
 -- A record that can go is dropped, and the search begins again; one that cannot stays. At the end none can go.
-use Rattle.std.proofs.Common.{◌+◌, ◌*◌, ◌≤◌, length, refl, ap, ◌∙◌, arith}
+use Rattle.std.proofs.Common.{arith}
 use Rattle.script_smallest.proofs.DroppingLaws.{dropping_starts, drop_next, keep_next, drop_ends}
-use Rattle.script_smallest.proofs.RemoveLaws.{removed_length}
 use Rattle.script_smallest.proofs.Trial.drop_records.Goals as goal
 
 pub loop-i-init : goal.loop-i-init
 loop-i-init c = record {
   within = omega arith;
   dropping = dropping_starts _ _ _ _ c.args.script.now c.requires.script_len;
-  first = c.requires.scratch1_len;
-  other = c.requires.scratch2_len;
-  same = refl;
 }
 
 pub loop-i-preserved-then-shows_without : goal.loop-i-preserved-then-shows_without
 loop-i-preserved-then-shows_without c =
     let l = c.loop-i in
-    let d = l.invariant.dropping in
-    let has_room : 8 * l.i + 8 ≤ length l.script = omega (arith, d.room) in record {
+    record {
       within = omega arith;
       dropping =
-          drop_next _ _ _ _ _ _ _ _ d c.loop-i-test.true _ c.shows_without.ensures c.if-shows_without.true _ c.remove_record.ensures;
-      first = c.shows_without.auto.scratch1 ∙ l.invariant.first;
-      other = c.shows_without.auto.scratch2 ∙ l.invariant.other;
-      same = ap length c.remove_record.ensures ∙ removed_length l.script l.i has_room ∙ l.invariant.same;
+          drop_next _ _ _ _ _ _ _ _ l.invariant.dropping c.loop-i-test.true _ c.shows_without.ensures c.if-shows_without.true _ c.remove_record.ensures;
     }
 
 pub loop-i-preserved : goal.loop-i-preserved
@@ -32,9 +24,6 @@ loop-i-preserved c =
       within = omega arith;
       dropping =
           keep_next _ _ _ _ _ _ _ _ l.invariant.dropping c.loop-i-test.true _ c.shows_without.ensures c.if-shows_without.false;
-      first = c.shows_without.auto.scratch1 ∙ l.invariant.first;
-      other = c.shows_without.auto.scratch2 ∙ l.invariant.other;
-      same = l.invariant.same;
     }
 
 pub returns-clause-value : goal.returns-clause-value
