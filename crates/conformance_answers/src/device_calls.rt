@@ -1,105 +1,88 @@
 // The calls that lend no list: the comparison and the calls on the device alone.
-ghost use Rattle.std.specs.Prelude.{◌≤◌, eqb};
+ghost use Rattle.std.specs.Prelude.{◌≤◌, eqb, IfErr, IfSome};
+ghost use Rattle.conformance_lists.specs.NoOutcome.{IsUndeclined};
 ghost use Rattle.words.specs.Word.{pick};
 
 use common_declines::possible::is_possible;
-use conformance_io::answer::Answer;
-use conformance_io::records::{device_of, geometry_of, with_device};
+use conformance_cases::sign;
+use conformance_io::records::DeviceNumbers;
+use conformance_lists::line::Line;
+use conformance_lists::no_outcome::NoOutcome;
 use geometry::banks::{Geometry, in_range};
 use protection::is_protected;
 use register_access::{register_read, store};
 use sequence::comparison::compare;
 use start_up::start_up;
 
-pub fn compare_answer(words: [u32; 26]) -> Answer
-    ensures { result.count ≤ 26 }
+pub fn compare_outcome(line: &mut Line) -> Result<String, NoOutcome>
+    ensures { IfErr result IsUndeclined }
 {
-    let c = compare(words[0], words[1]);
-    if c.second {
-        return Answer::only(2);
-    }
-    Answer::only(1)
+    let [first, second] = line.numbers::<2>()?;
+    line.end()?;
+    let bank = if compare(first, second).second { 2 } else { 1 };
+    Ok(format!(in line.alloc(); "{bank}")?)
 }
 
-pub fn possible_answer(words: [u32; 26]) -> Answer
-    ensures { result.count ≤ 26 }
+pub fn possible_outcome(line: &mut Line) -> Result<String, NoOutcome>
+    ensures { IfErr result IsUndeclined }
 {
-    let g = geometry_of(words);
+    let (g, d) = sign(line)?;
+    line.end()?;
     if !in_range(g) {
-        return Answer::no_case();
+        return Err(NoOutcome::NoCase);
     }
-    Answer::no_case().with_flag(is_possible(g, device_of(words)))
+    let is_so = u8::from(is_possible(g, d));
+    Ok(format!(in line.alloc(); "{is_so}")?)
 }
 
-// The pages of a kind, 0 for boot and 1 for program, and none of any other.
-fn pages_of(g: Geometry, kind: u32) -> u32
-    ensures { result ≤ pick (eqb kind 1) g.p g.b }
+// The pages of a kind, 0 for boot and 1 for program.
+fn pages_of(g: Geometry, kind: u32) -> Option<u32>
+    ensures { IfSome result (λ pages. pages ≤ pick (eqb kind 1) g.p g.b) }
 {
     match kind {
-        0 => g.b,
-        1 => g.p,
-        _ => 0,
+        0 => Some(g.b),
+        1 => Some(g.p),
+        _ => None,
     }
 }
 
-pub fn protected_answer(words: [u32; 26]) -> Answer
-    ensures { result.count ≤ 26 }
+pub fn protected_outcome(line: &mut Line) -> Result<String, NoOutcome>
+    ensures { IfErr result IsUndeclined }
 {
-    let g = geometry_of(words);
-    let kind = words[22];
-    let side = words[23];
-    let page = words[24];
-    if !in_range(g) {
-        return Answer::no_case();
+    let (g, d) = sign(line)?;
+    let [kind, side, page] = line.numbers::<3>()?;
+    line.end()?;
+    let pages = pages_of(g, kind).ok_or(NoOutcome::NoCase)?;
+    if !in_range(g) || 1 < side || pages <= page {
+        return Err(NoOutcome::NoCase);
     }
-    if 1 < side {
-        return Answer::no_case();
-    }
-    if pages_of(g, kind) <= page {
-        return Answer::no_case();
-    }
-    let d = device_of(words);
-    Answer::no_case().with_flag(is_protected(g, d, kind == 1, side == 1, page))
+    let is_so = u8::from(is_protected(g, d, kind == 1, side == 1, page));
+    Ok(format!(in line.alloc(); "{is_so}")?)
 }
 
-pub fn store_answer(words: [u32; 26]) -> Answer
-    ensures { result.count ≤ 26 }
-{
-    let g = geometry_of(words);
-    let d = device_of(words);
-    let given = store(g, d, words[22], words[23], words[24]);
-    let decline = given.decline;
-    let first = Answer::only(decline.number());
-    if !decline.is_accepted() {
-        return first;
-    }
-    with_device(first, given.device).with_flag(given.event)
+pub fn store_outcome(line: &mut Line) -> Result<String, NoOutcome> {
+    let (g, d) = sign(line)?;
+    let [number, form, value] = line.numbers::<3>()?;
+    line.end()?;
+    let given = store(g, d, number, form, value)?;
+    let device = DeviceNumbers::from(given.device);
+    let event = u8::from(given.event);
+    Ok(format!(in line.alloc(); "0 {device} {event}")?)
 }
 
-pub fn register_read_answer(words: [u32; 26]) -> Answer
-    ensures { result.count ≤ 26 }
-{
-    let g = geometry_of(words);
-    let d = device_of(words);
-    let given = register_read(g, d, words[22]);
-    let decline = given.decline;
-    let first = Answer::only(decline.number());
-    if !decline.is_accepted() {
-        return first;
-    }
-    with_device(first.with(given.value), given.device)
+pub fn register_read_outcome(line: &mut Line) -> Result<String, NoOutcome> {
+    let (g, d) = sign(line)?;
+    let number = line.number()?;
+    line.end()?;
+    let given = register_read(g, d, number)?;
+    let value = given.value;
+    let device = DeviceNumbers::from(given.device);
+    Ok(format!(in line.alloc(); "0 {value} {device}")?)
 }
 
-pub fn start_up_answer(words: [u32; 26]) -> Answer
-    ensures { result.count ≤ 26 }
-{
-    let g = geometry_of(words);
-    let d = device_of(words);
-    let given = start_up(g, d);
-    let decline = given.decline;
-    let first = Answer::only(decline.number());
-    if !decline.is_accepted() {
-        return first;
-    }
-    with_device(first, given.device)
+pub fn start_up_outcome(line: &mut Line) -> Result<String, NoOutcome> {
+    let (g, d) = sign(line)?;
+    line.end()?;
+    let device = DeviceNumbers::from(start_up(g, d)?);
+    Ok(format!(in line.alloc(); "0 {device}")?)
 }

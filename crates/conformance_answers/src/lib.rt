@@ -1,4 +1,4 @@
-// What each call gives for the inputs of a case.
+// What each call gives for the inputs that stand in a line: the text that the program prints, or why there is none.
 #![tactic(auto)]
 
 pub mod bank_calls;

@@ -1,51 +1,34 @@
 // The update's calls.
-// What asks for a place within a list is no call of the device: its callers show it.
-ghost use Rattle.std.specs.Prelude.{◌≤◌, length};
-
-use conformance_io::answer::Answer;
-use conformance_io::records::{device_of, geometry_of, with_device};
+use conformance_cases::{banks, image_and_sram, list, sign};
+use conformance_io::records::DeviceNumbers;
+use conformance_lists::line::Line;
+use conformance_lists::no_outcome::NoOutcome;
 use update_start::start;
 use update_turn::turn;
 
-pub fn update_start_answer(front: [u32; 26], one: &[u32], two: &[u32], image: &[u32]) -> Answer
-    ensures { result.count ≤ 26 }
-{
-    let g = geometry_of(front);
-    let d = device_of(front);
-    let given = start(g, d, one, two, image);
-    let decline = given.decline;
-    let first = Answer::only(decline.number());
-    if !decline.is_accepted() {
-        return first;
-    }
-    first.with(given.place).with(given.total)
+pub fn update_start_outcome(line: &mut Line) -> Result<String, NoOutcome> {
+    let (g, d) = sign(line)?;
+    let banks = banks(line)?;
+    let image = list(line)?;
+    line.end()?;
+    let given = start(g, d, &banks.one, &banks.two, &image)?;
+    let place = given.place;
+    let total = given.total;
+    Ok(format!(in line.alloc(); "0 {place} {total}")?)
 }
 
-// A turn's image and SRAM stand one after the other.
-pub fn turn_answer(
-    front: [u32; 26],
-    one: &mut [u32],
-    two: &mut [u32],
-    both: &[u32],
-    middle: usize,
-    place: u32,
-) -> Answer
-    requires { middle ≤ length both.now }
-    ensures { result.count ≤ 26 }
-{
-    let g = geometry_of(front);
-    let d = device_of(front);
-    let image = &both[..middle];
-    let sram = &both[middle..];
-    let given = turn(g, d, one, two, image, sram, place);
-    let decline = given.decline;
-    let first = Answer::only(decline.number());
-    if !decline.is_accepted() {
-        return first;
-    }
-    let done = first.with_flag(given.done);
-    with_device(done, given.device)
-        .with(given.place)
-        .with_flag(given.event)
-        .with_changes()
+pub fn turn_outcome(line: &mut Line) -> Result<String, NoOutcome> {
+    let (g, d) = sign(line)?;
+    let before = banks(line)?;
+    let (image, sram) = image_and_sram(line)?;
+    let place = line.number()?;
+    line.end()?;
+    let mut banks = before.clone()?;
+    let given = turn(g, d, &mut banks.one, &mut banks.two, &image, &sram, place)?;
+    let done = u8::from(given.done);
+    let device = DeviceNumbers::from(given.device);
+    let place = given.place;
+    let event = u8::from(given.event);
+    let changes = banks.changes(line.alloc(), &before)?;
+    Ok(format!(in line.alloc(); "0 {done} {device} {place} {event} {changes}")?)
 }

@@ -1,5 +1,4 @@
-// The calls by their names: each is made for the inputs of a case.
+// The calls by their names: each is made for the inputs that follow its name in a line.
 #![tactic(auto)]
 
-pub mod calls;
 pub mod names;

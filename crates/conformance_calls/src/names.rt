@@ -1,11 +1,17 @@
-// The calls by their names, and what each takes.
-ghost use Rattle.std.specs.Prelude.{◌≤◌};
+// The calls by their names, and what each gives.
 ghost use Rattle.conformance_calls.specs.Names.{Named};
 
-use conformance_cases::Shape;
-use conformance_lists::bytes::same;
+use conformance_answers::bank_calls::{lower_bank_outcome, page_outcome};
+use conformance_answers::changing_calls::{flash_read_outcome, reset_outcome, step_outcome};
+use conformance_answers::device_calls::{
+    compare_outcome, possible_outcome, protected_outcome, register_read_outcome, start_up_outcome,
+    store_outcome,
+};
+use conformance_answers::update_calls::{turn_outcome, update_start_outcome};
+use conformance_lists::line::Line;
+use conformance_lists::no_outcome::NoOutcome;
 
-#[derive(Clone, Copy)]
+#[derive(Clone, Copy, Debug, PartialEq, Eq)]
 pub enum Call {
     Compare,
     Possible,
@@ -20,81 +26,52 @@ pub enum Call {
     StartUp,
     UpdateStart,
     Turn,
-    Unknown,
-}
-
-fn taking(front: usize, lists: usize, back: usize) -> Shape
-    requires { (front ≤ 26) × (back ≤ 26) }
-    ensures { (result.front ≤ 26) × (result.back ≤ 26) }
-{
-    Shape { front, lists, back }
 }
 
 impl Call {
-    pub fn of(name: &[u8]) -> Call
+    pub fn of(name: &str) -> Option<Call>
         ensures { Named name.now result }
     {
-        if same(name, b"compare") {
-            return Call::Compare;
+        match name {
+            "compare" => Some(Call::Compare),
+            "possible" => Some(Call::Possible),
+            "protected" => Some(Call::Protected),
+            "store" => Some(Call::Store),
+            "register_read" => Some(Call::RegisterRead),
+            "flash_read" => Some(Call::FlashRead),
+            "lower_bank" => Some(Call::LowerBank),
+            "page" => Some(Call::Page),
+            "step" => Some(Call::Step),
+            "reset" => Some(Call::Reset),
+            "startup" => Some(Call::StartUp),
+            "update_start" => Some(Call::UpdateStart),
+            "turn" => Some(Call::Turn),
+            _ => None,
         }
-        if same(name, b"possible") {
-            return Call::Possible;
-        }
-        if same(name, b"protected") {
-            return Call::Protected;
-        }
-        if same(name, b"store") {
-            return Call::Store;
-        }
-        if same(name, b"register_read") {
-            return Call::RegisterRead;
-        }
-        if same(name, b"flash_read") {
-            return Call::FlashRead;
-        }
-        if same(name, b"lower_bank") {
-            return Call::LowerBank;
-        }
-        if same(name, b"page") {
-            return Call::Page;
-        }
-        if same(name, b"step") {
-            return Call::Step;
-        }
-        if same(name, b"reset") {
-            return Call::Reset;
-        }
-        if same(name, b"startup") {
-            return Call::StartUp;
-        }
-        if same(name, b"update_start") {
-            return Call::UpdateStart;
-        }
-        if same(name, b"turn") {
-            return Call::Turn;
-        }
-        Call::Unknown
     }
 
-    // G is three numbers and D nineteen.
-    pub fn shape(self) -> Shape
-        ensures { (result.front ≤ 26) × (result.back ≤ 26) }
-    {
+    /// What the call gives for the inputs that are left in a line.
+    pub fn outcome(self, line: &mut Line) -> Result<String, NoOutcome> {
         match self {
-            Call::Compare => taking(2, 0, 0),
-            Call::Possible => taking(22, 0, 0),
-            Call::Protected => taking(25, 0, 0),
-            Call::Store => taking(25, 0, 0),
-            Call::RegisterRead => taking(23, 0, 0),
-            Call::FlashRead => taking(22, 3, 1),
-            Call::LowerBank => taking(22, 2, 0),
-            Call::Page => taking(3, 1, 1),
-            Call::Step => taking(22, 3, 0),
-            Call::Reset => taking(22, 3, 5),
-            Call::StartUp => taking(22, 0, 0),
-            Call::UpdateStart => taking(22, 3, 0),
-            Call::Turn => taking(22, 4, 1),
-            Call::Unknown => taking(0, 0, 0),
+            Call::Compare => compare_outcome(line),
+            Call::Possible => possible_outcome(line),
+            Call::Protected => protected_outcome(line),
+            Call::Store => store_outcome(line),
+            Call::RegisterRead => register_read_outcome(line),
+            Call::FlashRead => flash_read_outcome(line),
+            Call::LowerBank => lower_bank_outcome(line),
+            Call::Page => page_outcome(line),
+            Call::Step => step_outcome(line),
+            Call::Reset => reset_outcome(line),
+            Call::StartUp => start_up_outcome(line),
+            Call::UpdateStart => update_start_outcome(line),
+            Call::Turn => turn_outcome(line),
         }
     }
+}
+
+/// What the call that a line names gives.
+pub fn outcome(line: &mut Line) -> Result<String, NoOutcome> {
+    let call = Call::of(line.word()?).ok_or(NoOutcome::NoCase)?;
+    call.outcome(line)
 }

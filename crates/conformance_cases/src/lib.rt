@@ -1,102 +1,63 @@
-// The inputs of a call: numbers, lent lists, and numbers again.
-// What asks for a shape is no call of the device: its callers show it.
+// What the calls take from a line: the geometry and the device, the banks, an image and an SRAM.
 #![tactic(auto)]
 
-ghost use Rattle.std.specs.Prelude.{◌≡◌, ◌&&◌, ◌≤◌};
-ghost use Rattle.conformance_cases.specs.Cases.{Parted, Read};
+ghost use Rattle.std.specs.Prelude.{◌≡◌, ◌+◌, ◌≤◌, IfErr, IfOk, vec_len};
+ghost use Rattle.conformance_lists.specs.NoOutcome.{IsUndeclined};
+ghost use Rattle.conformance_lists.specs.declared.no_outcome.NoOutcome.TheVariants.{NoCase};
 
-use conformance_lists::lists::take_list_if;
-use conformance_lists::numbers::take;
+use conformance_io::banks::Banks;
+use conformance_io::records::{DeviceNumbers, geometry_of};
+use conformance_lists::line::Line;
+use conformance_lists::no_outcome::NoOutcome;
+use device::record::Device;
+use geometry::banks::Geometry;
 
-// How many numbers a call takes, how many lists after them, and how many numbers after those.
-#[derive(Clone, Copy)]
-pub struct Shape {
-    pub front: usize,
-    pub lists: usize,
-    pub back: usize,
-}
+/// The longest list that can be lent, in words: a page more than the largest bank.
+pub const LONGEST_LIST: usize = 548864;
 
-// Whether a line has the inputs, the numbers before the lists, where the lists start, the words of both banks, and the
-// numbers after the lists. Lists after the banks stand in the spare buffer: the last one ends there at `end`, and of two
-// the first ends, and the last starts, at `middle`.
-#[derive(Clone, Copy)]
-pub struct Case {
-    pub is_right: bool,
-    pub front: [u32; 26],
-    pub lists: usize,
-    pub one: usize,
-    pub two: usize,
-    pub middle: usize,
-    pub end: usize,
-    pub back: [u32; 26],
-}
+/// The most words of an image and an SRAM together: the longest list, and after it an SRAM that is too long.
+pub const MOST_LENT: usize = 570000;
 
-// The lists after the banks: whether they are there, where they end in the line, and where in the spare buffer.
-#[derive(Clone, Copy)]
-struct Rest {
-    is_right: bool,
-    next: usize,
-    middle: usize,
-    end: usize,
-}
-
-// The third and fourth list of a call, one after the other in the spare buffer. A call that takes three has its third
-// in the place of the last.
-fn take_rest(lists: usize, line: &[u8], at: usize, spare: &mut [u32], most: usize) -> Rest
-    ensures { Parted spare.new result.middle result.end }
+pub fn geometry(line: &mut Line) -> Result<Geometry, NoOutcome>
+    ensures { IfErr result (λ why. why ≡ NoCase) }
 {
-    let first = take_list_if(3 < lists, line, at, spare, most);
-    let middle = first.length;
-    let last = take_list_if(2 < lists, line, first.next, &mut spare[middle..], most);
-    Rest {
-        is_right: all(first.is_right, last.is_right, true),
-        next: last.next,
-        middle,
-        end: middle + last.length,
-    }
+    Ok(geometry_of(line.numbers::<3>()?))
 }
 
-fn all(first: bool, second: bool, third: bool) -> bool
-    ensures { result ≡ (first && (second && third)) }
+/// The geometry and the device of a sign.
+pub fn sign(line: &mut Line) -> Result<(Geometry, Device), NoOutcome>
+    ensures { IfErr result (λ why. why ≡ NoCase) }
 {
-    if !first {
-        return false;
-    }
-    if !second {
-        return false;
-    }
-    third
+    let geometry = geometry(line)?;
+    let numbers = DeviceNumbers(line.numbers::<19>()?);
+    Ok((geometry, numbers.into()))
 }
 
-// The inputs from a position to the line's end.
-pub fn take_case(
-    line: &[u8],
-    at: usize,
-    shape: Shape,
-    one: &mut [u32],
-    two: &mut [u32],
-    spare: &mut [u32],
-) -> Case
-    requires { (shape.front ≤ 26) × (shape.back ≤ 26) }
-    ensures { Read one.new two.new spare.new result }
+/// A bank, an image or an SRAM.
+pub fn list(line: &mut Line) -> Result<Vec<u32>, NoOutcome>
+    ensures ok { IfOk result (λ words. vec_len words ≤ LONGEST_LIST) }
+    ensures err { IfErr result IsUndeclined }
 {
-    let first = take(line, at, shape.front);
-    let bank = take_list_if(0 < shape.lists, line, first.next, one, spare.len());
-    let other = take_list_if(1 < shape.lists, line, bank.next, two, spare.len());
-    let rest = take_rest(shape.lists, line, other.next, spare, one.len());
-    let last = take(line, rest.next, shape.back);
-    let are_lists = all(bank.is_right, other.is_right, rest.is_right);
-    let is_end = last.next == line.len();
-    let front = first.words;
-    let back = last.words;
-    Case {
-        is_right: all(first.is_right, are_lists, last.is_right) && is_end,
-        front,
-        lists: first.next,
-        one: bank.length,
-        two: other.length,
-        middle: rest.middle,
-        end: rest.end,
-        back,
-    }
+    line.list(LONGEST_LIST)
+}
+
+pub fn banks(line: &mut Line) -> Result<Banks, NoOutcome>
+    ensures one { IfOk result (λ banks. vec_len banks.one ≤ LONGEST_LIST) }
+    ensures two { IfOk result (λ banks. vec_len banks.two ≤ LONGEST_LIST) }
+    ensures err { IfErr result IsUndeclined }
+{
+    let one = list(line)?;
+    let two = list(line)?;
+    Ok(Banks { one, two })
+}
+
+/// An image and the SRAM after it.
+pub fn image_and_sram(line: &mut Line) -> Result<(Vec<u32>, Vec<u32>), NoOutcome>
+    ensures image { IfOk result (λ lists. vec_len lists.0 ≤ LONGEST_LIST) }
+    ensures both { IfOk result (λ lists. vec_len lists.0 + vec_len lists.1 ≤ MOST_LENT) }
+    ensures err { IfErr result IsUndeclined }
+{
+    let image = list(line)?;
+    let sram = line.list(LONGEST_LIST.min(MOST_LENT - image.len()))?;
+    Ok((image, sram))
 }

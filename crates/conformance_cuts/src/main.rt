@@ -31,90 +31,37 @@
 
 mod cuts;
 mod lists;
-mod output;
 mod signs;
+mod state;
 mod sums;
-mod updates;
 
-// What asks for room is no call of the device: its callers show it.
-ghost use Rattle.std.specs.Prelude.{◌≡◌, ◌<◌, ◌≤◌, length};
+use cuts::cuts_and_turn;
+use lists::print_lists;
+use signs::{Sign, signs};
+use state::number_of;
+use std::alloc::AllocError;
 
-use signs::{MOST_WORDS, Sign};
-use std::io::Stdout;
-
-// Fills the banks and the image, cuts the update at every place, and goes through its lists with a read.
-fn fill_and_cut(
-    to: Stdout,
-    sign: Sign,
-    one: &mut [u32],
-    two: &mut [u32],
-    image: &mut [u32],
-    first: &mut [u32],
-    second: &mut [u32],
-)
-    requires one_len { (length one.old ≡ sign.words) × (length two.old ≡ sign.words) × (length image.old ≡ sign.words) }
-    requires words_bound { (sign.words ≤ 192) × (sign.sequence < sign.words) }
-{
-    signs::fill_banks(sign, one, two);
-    signs::fill_image(image);
-    let total = cuts::put_sign(to, sign, one, two, image, first, second);
-    lists::put_lists(to, sign, one, two, image, first, second, total);
-}
-
-// Cuts the update of a sign. The slices have room for every sign; a sign's own words are the first of each.
-fn cut_sign(
-    to: Stdout,
-    sign: Sign,
-    one: &mut [u32],
-    two: &mut [u32],
-    image: &mut [u32],
-    first: &mut [u32],
-    second: &mut [u32],
-)
-    requires one_len { (length one.old ≡ 192) × (length two.old ≡ 192) × (length image.old ≡ 192) }
-    requires first_len { (length first.old ≡ 192) × (length second.old ≡ 192) }
-    requires words_bound { (sign.words ≤ 192) × (sign.sequence < sign.words) }
-{
-    let words = sign.words;
-    fill_and_cut(
-        to,
-        sign,
-        &mut one[..words],
-        &mut two[..words],
-        &mut image[..words],
-        &mut first[..words],
-        &mut second[..words],
-    );
-}
-
-// Lends the arrays as slices. In main itself their lengths would have to be counted out element by element.
-fn run(
-    to: Stdout,
-    one: &mut [u32; MOST_WORDS],
-    two: &mut [u32; MOST_WORDS],
-    image: &mut [u32; MOST_WORDS],
-    first: &mut [u32; MOST_WORDS],
-    second: &mut [u32; MOST_WORDS],
-) {
-    let mut number = 0;
-    while number < 4 {
-        cut_sign(to, signs::numbered(number), one, two, image, first, second);
-        number += 1;
+// The line of a sign, and those of its places and of their lists.
+fn print_sign(rt: &(impl Print + AllocGlobal), sign: Sign) -> Result<(), AllocError> {
+    let image = sign.image(rt.alloc())?;
+    let mut state = sign.state(rt.alloc())?;
+    let running = number_of(state.power_on());
+    let (declined, total) = match state.start(&image) {
+        Ok(started) => (0, started.total),
+        Err(decline) => (decline.number(), 0),
+    };
+    let g = sign.geometry;
+    let _ = println!(rt; "{} {} {} {running} {declined} {total}", g.q, g.b, g.p);
+    for place in 0..=total {
+        let rest = cuts_and_turn(rt.alloc(), &mut state, &image, sign.old, place)?;
+        let _ = println!(rt; "{place}{rest}");
     }
+    print_lists(rt, &sign, &image, total)
 }
 
-fn main(rt: HostRuntime) {
-    let mut one = [0u32; MOST_WORDS];
-    let mut two = [0u32; MOST_WORDS];
-    let mut image = [0u32; MOST_WORDS];
-    let mut first = [0u32; MOST_WORDS];
-    let mut second = [0u32; MOST_WORDS];
-    run(
-        rt.stdout(),
-        &mut one,
-        &mut two,
-        &mut image,
-        &mut first,
-        &mut second,
-    );
+fn main(rt: HostRuntime) -> Result<(), AllocError> {
+    for sign in signs() {
+        print_sign(&rt, sign)?;
+    }
+    Ok(())
 }

@@ -1,88 +1,75 @@
 // Sums of words in their order, modulo a prime above every word: another word at one index is another sum.
-use crate::updates::Ended;
-use device::record::{Device, Operands, register};
+use crate::state::{Progress, State};
+use conformance_io::records::DeviceNumbers;
+use device::record::Device;
+use std::fmt;
 
 const PRIME: u64 = 4294967311;
 
 const FACTOR: u64 = 1000003;
 
-// The sums of a place.
-#[derive(Clone, Copy)]
+#[derive(Clone, Copy, Default)]
+struct Sum(u64);
+
+impl Sum {
+    fn add(&mut self, word: u32) {
+        self.0 = ((self.0 % PRIME) * FACTOR + u64::from(word)) % PRIME;
+    }
+
+    fn add_all(&mut self, words: &[u32]) {
+        for word in words {
+            self.add(*word);
+        }
+    }
+
+    fn add_device(&mut self, d: Device) {
+        self.add_all(&DeviceNumbers::from(d).0);
+    }
+}
+
+/// The sums of a place, which print each after a blank.
+#[derive(Clone, Copy, Default)]
 pub struct Sums {
-    pub state: u64,
-    pub devices: u64,
-    pub cut_one: u64,
-    pub cut_two: u64,
-    pub again_one: u64,
-    pub again_two: u64,
-}
-
-fn with_word(sum: u64, word: u32) -> u64 {
-    ((sum % PRIME) * FACTOR + word as u64) % PRIME
-}
-
-fn with_words(sum: u64, words: &[u32]) -> u64 {
-    let mut longer = sum;
-    let mut i = 0;
-    while i < words.len() {
-        longer = with_word(longer, words[i]);
-        i += 1;
-    }
-    longer
-}
-
-// The sum with what was launched, in the order of its registers.
-fn with_operands(sum: u64, o: Operands) -> u64 {
-    let data = o.nvmdata;
-    let address = with_word(sum, o.nvmaddr);
-    with_word(with_words(address, &data), o.nvmsrcaddr)
-}
-
-// The sum with the registers by their numbers, the key step, the step number and what was launched.
-fn with_device(sum: u64, d: Device) -> u64 {
-    let mut longer = sum;
-    let mut number = 0;
-    while number < 11 {
-        longer = with_word(longer, register(d, number));
-        number += 1;
-    }
-    let stepped = with_word(with_word(longer, d.keystep), d.step);
-    with_operands(stepped, d.launched)
+    state: Sum,
+    devices: Sum,
+    cut_one: Sum,
+    cut_two: Sum,
+    again_one: Sum,
+    again_two: Sum,
 }
 
 impl Sums {
-    // The sums of a place before its first cut.
-    pub fn of(d: Device, one: &[u32], two: &[u32]) -> Sums {
+    /// The sums of a place before its first cut.
+    pub fn of(state: &State) -> Sums {
+        let mut sum = Sum::default();
+        sum.add_device(state.device);
+        sum.add_all(&state.one);
+        sum.add_all(&state.two);
         Sums {
-            state: with_words(with_words(with_device(0, d), one), two),
-            devices: 0,
-            cut_one: 0,
-            cut_two: 0,
-            again_one: 0,
-            again_two: 0,
+            state: sum,
+            ..Sums::default()
         }
     }
 
-    pub fn with_cut(self, d: Device, one: &[u32], two: &[u32]) -> Sums {
-        Sums {
-            state: self.state,
-            devices: with_device(self.devices, d),
-            cut_one: with_words(self.cut_one, one),
-            cut_two: with_words(self.cut_two, two),
-            again_one: self.again_one,
-            again_two: self.again_two,
-        }
+    pub fn add_cut(&mut self, state: &State) {
+        self.devices.add_device(state.device);
+        self.cut_one.add_all(&state.one);
+        self.cut_two.add_all(&state.two);
     }
 
-    pub fn with_again(self, ended: Ended, one: &[u32], two: &[u32]) -> Sums {
-        let devices = with_device(self.devices, ended.device);
-        Sums {
-            state: self.state,
-            devices: with_word(with_word(devices, ended.place), ended.events),
-            cut_one: self.cut_one,
-            cut_two: self.cut_two,
-            again_one: with_words(self.again_one, one),
-            again_two: with_words(self.again_two, two),
-        }
+    pub fn add_again(&mut self, state: &State, progress: Progress) {
+        self.devices.add_device(state.device);
+        self.devices.add(progress.place);
+        self.devices.add(progress.events);
+        self.again_one.add_all(&state.one);
+        self.again_two.add_all(&state.two);
+    }
+}
+
+impl fmt::Display for Sums {
+    fn fmt<W: fmt::Write>(&self, f: &mut fmt::Formatter<W>) -> fmt::Result {
+        write!(f, " {} {}", self.state.0, self.devices.0)?;
+        write!(f, " {} {}", self.cut_one.0, self.cut_two.0)?;
+        write!(f, " {} {}", self.again_one.0, self.again_two.0)
     }
 }

@@ -1,14 +1,12 @@
--- Banks beside the spare buffer that their lists are read into again. Assumes nothing.
-use Rattle.std.specs.Prelude.{ℕ, ◌≤◌, ◌<◌, ◌≡◌, List, length, take}
+-- What changed in a list of words. Assumes nothing.
+use Rattle.std.specs.Prelude.{ℕ, ◌+◌, List, [], ◌∷◌, nat_eq, if◌then◌else◌}
+use Rattle.conformance_io.specs.declared.banks.Change.{Change}
 
--- the spare buffer has room for a bank, whose indices are words
-pub record Room (bank spare : List ℕ) : Type 0 where
-  pub room : length bank ≤ length spare
-  pub fits : length bank < 4294967296
-
--- two banks, for each of which the spare buffer has room, and where the lists after them end there
-pub record Lent (one two spare : List ℕ) (end : ℕ) : Type 0 where
-  pub for_one : Room one spare
-  pub for_two : Room two spare
-  pub within : end ≤ length spare
-  pub front : end ≡ length (take end spare)
+-- the changes of a bank's words from an index on, in the order of their indices; a word that had none before it is one
+abbrev pub changes_from : ℕ → ℕ → List ℕ → List ℕ → List Change
+changes_from bank index [] _ = []
+changes_from bank index (word ∷ now) [] = record { bank = bank; index = index; word = word } ∷ changes_from bank (index + 1) now []
+changes_from bank index (word ∷ now) (old ∷ before) =
+    if nat_eq old word
+    then changes_from bank (index + 1) now before
+    else (record { bank = bank; index = index; word = word } ∷ changes_from bank (index + 1) now before)

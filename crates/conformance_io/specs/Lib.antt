@@ -1,4 +1,2 @@
-pub mod Output
-pub mod Differences
 pub mod Changes
 pub mod Records

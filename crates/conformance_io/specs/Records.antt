@@ -1,9 +1,9 @@
--- The geometry and the device by the places of their numbers in a case. Assumes nothing.
+-- The geometry and the device by the places of their numbers. Assumes nothing.
 use Rattle.std.specs.Prelude.{ℕ, List, [], ◌∷◌, get_or}
 use Rattle.geometry.specs.declared.banks.Geometry.{Geometry}
 use Rattle.device.specs.declared.record.Device.{Device}
 
--- number i of a case
+-- number i of these
 abbrev pub input_of : List ℕ → ℕ → ℕ
 input_of words i = get_or words i 0
 
@@ -15,20 +15,20 @@ geometry_of words = record { q = input_of words 0; b = input_of words 1; p = inp
 abbrev pub device_of : List ℕ → Device
 device_of words =
     record {
-      nvmcon = record { 0 = input_of words 3 };
-      nvmkey = input_of words 4;
-      nvmaddr = input_of words 5;
-      nvmdata = input_of words 6 ∷ input_of words 7 ∷ input_of words 8 ∷ input_of words 9 ∷ [];
-      nvmsrcaddr = input_of words 10;
-      nvmpwp = record { 0 = input_of words 11 };
-      nvmbwp = record { 0 = input_of words 12 };
-      nvmcon2 = record { 0 = input_of words 13 };
-      keystep = input_of words 14;
-      step = input_of words 15;
+      nvmcon = record { 0 = input_of words 0 };
+      nvmkey = input_of words 1;
+      nvmaddr = input_of words 2;
+      nvmdata = input_of words 3 ∷ input_of words 4 ∷ input_of words 5 ∷ input_of words 6 ∷ [];
+      nvmsrcaddr = input_of words 7;
+      nvmpwp = record { 0 = input_of words 8 };
+      nvmbwp = record { 0 = input_of words 9 };
+      nvmcon2 = record { 0 = input_of words 10 };
+      keystep = input_of words 11;
+      step = input_of words 12;
       launched =
           record {
-            nvmaddr = input_of words 16;
-            nvmdata = input_of words 17 ∷ input_of words 18 ∷ input_of words 19 ∷ input_of words 20 ∷ [];
-            nvmsrcaddr = input_of words 21;
+            nvmaddr = input_of words 13;
+            nvmdata = input_of words 14 ∷ input_of words 15 ∷ input_of words 16 ∷ input_of words 17 ∷ [];
+            nvmsrcaddr = input_of words 18;
           };
     }

@@ -1,9 +1,5 @@
-// Standard input and output; answers as numbers, with what changed in the banks; the geometry and the device by their numbers.
+// The geometry and the device by their numbers, both banks, and what a call changed in them.
 #![tactic(auto)]
 
-pub mod answer;
-pub mod changes;
-pub mod differences;
-pub mod input;
-pub mod output;
+pub mod banks;
 pub mod records;

@@ -1,1 +1,1 @@
-pub mod SameLaws
+mod NumberLaws

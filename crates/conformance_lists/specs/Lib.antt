@@ -1,3 +1,2 @@
-pub mod Bytes
+pub mod NoOutcome
 pub mod Numbers
-pub mod Lists

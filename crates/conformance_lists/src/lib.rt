@@ -1,6 +1,5 @@
-// Numbers, lists of them and bytes, read from a line.
+// The words of a line: numbers, and lists of them.
 #![tactic(auto)]
 
-pub mod bytes;
-pub mod lists;
-pub mod numbers;
+pub mod line;
+pub mod no_outcome;

@@ -1,9 +1,9 @@
--- The scripts so far lie within the input. The measure is what is left.
-use Rattle.std.proofs.Common.{◌-◌, ◌≤◌, length}
+-- The buffer keeps its length. The measure is what is left of the input.
+use Rattle.std.proofs.Common.{◌≡◌, length}
 use Rattle.conformance_scripts.proofs.play_all.Given as goal
 
-abbrev pub invariant-loop-at : goal.invariant-loop-at
-invariant-loop-at l = l.at ≤ length l.input
+abbrev pub invariant-loop-head : goal.invariant-loop-head
+invariant-loop-head g l = length l.out ≡ length l.fn.out
 
-abbrev pub decreases-loop-at : goal.decreases-loop-at
-decreases-loop-at l = length l.input - l.at
+abbrev pub decreases-loop-head : goal.decreases-loop-head
+decreases-loop-head g l = length l.rest

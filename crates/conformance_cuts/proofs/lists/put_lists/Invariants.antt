@@ -1,9 +1,0 @@
--- No place is past the total. The measure is the places that are left.
-use Rattle.std.proofs.Common.{◌-◌, ◌≤◌}
-use Rattle.conformance_cuts.proofs.lists.put_lists.Given as goal
-
-abbrev pub invariant-loop-place : goal.invariant-loop-place
-invariant-loop-place l = l.place ≤ l.total
-
-abbrev pub decreases-loop-place : goal.decreases-loop-place
-decreases-loop-place l = l.total - l.place

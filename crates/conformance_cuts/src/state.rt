@@ -1,0 +1,135 @@
+// A sign's device with both banks: resets with a start-up, flash steps and reads, turns and whole updates, all with no SRAM.
+use device::outcome::Outcome;
+use device::record::Device;
+use device::registers::Nvmcon;
+use flash::step::step;
+use geometry::banks::Geometry;
+use reads::{FlashWord, flash_read};
+use resets::reset;
+use start_up::start_up;
+use update::start::UpdateStart;
+use update::turn::TurnOutcome;
+use update_start::start;
+use update_turn::turn;
+use words::decline::Decline;
+use words::word::has;
+
+#[derive(Clone, Copy, Debug, PartialEq, Eq)]
+pub enum Bank {
+    One = 1,
+    Two = 2,
+}
+
+/// The number of a bank, and 0 where there is none.
+pub fn number_of(bank: Option<Bank>) -> u32 {
+    bank.map_or(0, |bank| bank as u32)
+}
+
+/// How far an update came.
+#[derive(Clone, Copy, Debug, Default, PartialEq, Eq)]
+pub struct Progress {
+    pub place: u32,
+    pub events: u32,
+    pub is_done: bool,
+}
+
+#[derive(Clone, Drop)]
+pub struct State {
+    pub geometry: Geometry,
+    pub device: Device,
+    pub one: Vec<u32>,
+    pub two: Vec<u32>,
+}
+
+impl State {
+    fn reset_and_start_up(&mut self, kind: u32, mask: [u32; 4]) -> Result<(), Decline> {
+        let g = self.geometry;
+        let after = reset(
+            g,
+            self.device,
+            &mut self.one,
+            &mut self.two,
+            &[],
+            kind,
+            mask,
+        )?;
+        self.device = after.device;
+        self.device = start_up(g, self.device)?;
+        Ok(())
+    }
+
+    // The bank that BFSWAP and PFSWAP both put lower.
+    fn running(&self) -> Option<Bank> {
+        let con = self.device.nvmcon.0;
+        match (has(con, Nvmcon::BFSWAP), has(con, Nvmcon::PFSWAP)) {
+            (false, false) => Some(Bank::One),
+            (true, true) => Some(Bank::Two),
+            _ => None,
+        }
+    }
+
+    /// A reset and a start-up; gives the bank that runs then, or none where one of the two is declined.
+    pub fn restart(&mut self, kind: u32, mask: [u32; 4]) -> Option<Bank> {
+        self.reset_and_start_up(kind, mask).ok()?;
+        self.running()
+    }
+
+    /// A power-on and a start-up.
+    pub fn power_on(&mut self) -> Option<Bank> {
+        self.restart(0, [0; 4])
+    }
+
+    pub fn step(&mut self) -> Result<Outcome, Decline> {
+        let g = self.geometry;
+        let outcome = step(g, self.device, &mut self.one, &mut self.two, &[])?;
+        self.device = outcome.device;
+        Ok(outcome)
+    }
+
+    pub fn read(&mut self, address: u32) -> Result<FlashWord, Decline> {
+        let g = self.geometry;
+        let read = flash_read(g, self.device, &mut self.one, &mut self.two, &[], address)?;
+        self.device = read.device;
+        Ok(read)
+    }
+
+    pub fn start(&self, image: &[u32]) -> Result<UpdateStart, Decline> {
+        start(self.geometry, self.device, &self.one, &self.two, image)
+    }
+
+    pub fn turn(&mut self, image: &[u32], place: u32) -> Result<TurnOutcome, Decline> {
+        let g = self.geometry;
+        let outcome = turn(
+            g,
+            self.device,
+            &mut self.one,
+            &mut self.two,
+            image,
+            &[],
+            place,
+        )?;
+        self.device = outcome.device;
+        Ok(outcome)
+    }
+
+    // The turn of the place that an update has reached; one that is declined leaves it.
+    fn advance(&mut self, image: &[u32], progress: Progress) -> Progress {
+        match self.turn(image, progress.place) {
+            Ok(outcome) => Progress {
+                place: outcome.place,
+                events: progress.events.wrapping_add(u32::from(outcome.event)),
+                is_done: outcome.done,
+            },
+            Err(_) => progress,
+        }
+    }
+
+    /// So many turns from place 0.
+    pub fn run_turns(&mut self, image: &[u32], count: u64) -> Progress {
+        let mut progress = Progress::default();
+        for _ in 0..count {
+            progress = self.advance(image, progress);
+        }
+        progress
+    }
+}
