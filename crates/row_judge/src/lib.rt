@@ -2,7 +2,8 @@
 // What asks for InRange or for room here is no call of the row: row_decline judges these first.
 #![tactic(auto)]
 
-ghost use Rattle.std.specs.Prelude.{◌≡◌, ◌≤◌, ◌<◌, eqb, length, get_or};
+ghost use Rattle.std.specs.Prelude.{◌≡◌, IfOk, ◌≤◌, ◌<◌, eqb, length, get_or};
+ghost use Rattle.words.specs.Decline.{verdict_from};
 ghost use Rattle.std.specs.List.{list_all};
 ghost use Rattle.words.specs.Word.{any_below};
 ghost use Rattle.row_judge.specs.Judge.{in_row_of, entry_stands_of, queue_stands_of, StartsOf, apart_of, bank_stands_of, banks_stand_of, row_stands_of, row_decline_of};
@@ -136,12 +137,13 @@ pub fn row_decline(
     store: usize,
     image: usize,
     sram: usize,
-) -> Result<(), Decline>
-    ensures { result ≡ row_decline_of g k row.now.signs row.now.count row.now.queue row.now.last store image sram }
+) -> Result<Layout, Decline>
+    ensures verdict { verdict_from result ≡ row_decline_of g k row.now.signs row.now.count row.now.queue row.now.last store image sram }
+    ensures layout { IfOk result (λ layout. layout.geometry ≡ g) }
 {
-    lent_decline(g, Lent::Bank(image), sram)?;
-    if !row_stands(g, k, row, store) {
+    let layout = lent_decline(g, Lent::Bank(image), sram)?;
+    if !row_stands(layout, k, row, store) {
         return Err(Decline::Row);
     }
-    Ok(())
+    Ok(layout)
 }

@@ -21,13 +21,13 @@ use borrow.Author.Tests.{lt-leb}
 use Rattle.row_schedule.proofs.ServeLaws.{row-sound, queue-sound}
 
 module _ (c : Judged) where
-  pub sound : RowSound c.shared.g c.shared.store.now c.row.now.signs c.row.now.count
+  pub sound : RowSound c.shared.layout.geometry c.shared.store.now c.row.now.signs c.row.now.count
   sound =
-      row-sound c.shared.g c.k c.row.now.signs c.row.now.count c.row.now.queue c.row.now.last c.shared.store.now c.shared.image.now c.shared.sram.now c.accepted
+      row-sound c.shared.layout.geometry c.k c.row.now.signs c.row.now.count c.row.now.queue c.row.now.last c.shared.store.now c.shared.image.now c.shared.sram.now c.accepted
 
   queue_both : QueueSound c.row.now.queue c.row.now.count × (c.row.now.last < c.row.now.count)
   queue_both =
-      queue-sound c.shared.g c.k c.row.now.signs c.row.now.count c.row.now.queue c.row.now.last c.shared.store.now c.shared.image.now c.shared.sram.now
+      queue-sound c.shared.layout.geometry c.k c.row.now.signs c.row.now.count c.row.now.queue c.row.now.last c.shared.store.now c.shared.image.now c.shared.sram.now
       c.accepted
 
   pub waiting : QueueSound c.row.now.queue c.row.now.count
@@ -37,7 +37,7 @@ module _ (c : Judged) where
   last_inside = queue_both.1
 
   -- how a record stands, by what a look at it tells and by whether it is one of those that wait
-  pub standing_at : (full : Bool) (j : ℕ) (look : Look) → look ≡ look_of c.shared.g c.shared.store.now c.shared.image.now c.shared.sram.now (sign_at c.row.now.signs j)
+  pub standing_at : (full : Bool) (j : ℕ) (look : Look) → look ≡ look_of c.shared.layout.geometry c.shared.store.now c.shared.image.now c.shared.sram.now (sign_at c.row.now.signs j)
       → (numbers : List ℕ) → numbers ≡ waiting_of c.row.now.queue → (waits : Bool) → waits ≡ list_any (λ y. nat_eq y j) numbers
       → standing_of (record { free = look.can && not waits; held = look.sets && full }) ≡ standing_of (stands_at c full j)
   unfolding stand_of
@@ -45,7 +45,7 @@ module _ (c : Judged) where
       rw (el, ew, en) (ap (λ (w : Bool). standing_of (record { free = (look_at j).can && not w; held = (look_at j).sets && full })) listed)
     where
       look_at : ℕ → Look
-      look_at i = look_of c.shared.g c.shared.store.now c.shared.image.now c.shared.sram.now (sign_at c.row.now.signs i)
+      look_at i = look_of c.shared.layout.geometry c.shared.store.now c.shared.image.now c.shared.sram.now (sign_at c.row.now.signs i)
 
       listed : list_any (λ y. nat_eq y j) (waiting_of c.row.now.queue) ≡ waits_of (waiting_of c.row.now.queue) j
       listed =
@@ -93,7 +93,7 @@ module _ (c : Judged) where
     by_search : from_queue_of (known_at c) ≡ false → (choice : Choice)
         → choice ≡ round_of c.row.now.count c.row.now.queue c.row.now.last (stands_at c (leb c.k count)) → choice ≡ choice_of (known_at c)
     by_search none choice e =
-        by_round c.shared.g c.k c.row.now.signs c.row.now.count c.row.now.queue c.row.now.last c.shared.store.now c.shared.image.now c.shared.sram.now
+        by_round c.shared.layout.geometry c.k c.row.now.signs c.row.now.count c.row.now.queue c.row.now.last c.shared.store.now c.shared.image.now c.shared.sram.now
         (leb c.k count) full_is none choice e
 
     -- with K or more set
@@ -101,7 +101,7 @@ module _ (c : Judged) where
         → choice ≡ round_of c.row.now.count c.row.now.queue c.row.now.last (stands_at c (leb c.k count)) → choice ≡ choice_of (known_at c)
     full_search many choice e =
         by_search
-        (full_none c.shared.g c.k c.row.now.signs c.row.now.count c.row.now.queue c.row.now.last c.shared.store.now c.shared.image.now c.shared.sram.now
+        (full_none c.shared.layout.geometry c.k c.row.now.signs c.row.now.count c.row.now.queue c.row.now.last c.shared.store.now c.shared.image.now c.shared.sram.now
         (full_is ∙ le-leb c.k count many)) choice e
 
     -- with fewer, where none of those that wait can be served
@@ -110,7 +110,7 @@ module _ (c : Judged) where
     none_search none choice e =
         let past = below_none _ _ none in
         by_search
-        (ready_none c.shared.g c.k c.row.now.signs c.row.now.count c.row.now.queue c.row.now.last c.shared.store.now c.shared.image.now c.shared.sram.now
+        (ready_none c.shared.layout.geometry c.k c.row.now.signs c.row.now.count c.row.now.queue c.row.now.last c.shared.store.now c.shared.image.now c.shared.sram.now
         _ refl (omega (arith, past, entries_length c.row.now.queue.numbers c.row.now.queue.count))) choice e
 
     -- with fewer, the first of those that can
@@ -120,8 +120,8 @@ module _ (c : Judged) where
         let b = below_some _ _ p some in
         let inside : p < c.row.now.queue.count = omega (arith, b.0, b.1, entries_length c.row.now.queue.numbers c.row.now.queue.count) in
         ap (λ (q : Queue). record { served = get_or c.row.now.queue.numbers p 0; queue = q }) e
-        ∙ by_queue c.shared.g c.k c.row.now.signs c.row.now.count c.row.now.queue c.row.now.last c.shared.store.now c.shared.image.now c.shared.sram.now
-        (ready_some c.shared.g c.k c.row.now.signs c.row.now.count c.row.now.queue c.row.now.last c.shared.store.now c.shared.image.now c.shared.sram.now
+        ∙ by_queue c.shared.layout.geometry c.k c.row.now.signs c.row.now.count c.row.now.queue c.row.now.last c.shared.store.now c.shared.image.now c.shared.sram.now
+        (ready_some c.shared.layout.geometry c.k c.row.now.signs c.row.now.count c.row.now.queue c.row.now.last c.shared.store.now c.shared.image.now c.shared.sram.now
         (full_is ∙ lt-leb c.k count few) p b.0 inside) p b.0 inside
 
   -- and it is a record of the row

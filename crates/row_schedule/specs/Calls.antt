@@ -12,7 +12,7 @@ some_below i n = pick (ltb i n) (Some i) None
 
 abbrev pub known_at : Judged → Known
 known_at c =
-    known_of c.shared.g c.k c.row.now.signs c.row.now.count c.row.now.queue c.row.now.last c.shared.store.now c.shared.image.now c.shared.sram.now
+    known_of c.shared.layout.geometry c.k c.row.now.signs c.row.now.count c.row.now.queue c.row.now.last c.shared.store.now c.shared.image.now c.shared.sram.now
 
 abbrev pub stands_at : Judged → Bool → ℕ → Stand
-stands_at c full = stands_of c.shared.g c.row.now.signs c.row.now.queue full c.shared.store.now c.shared.image.now c.shared.sram.now
+stands_at c full = stands_of c.shared.layout.geometry c.row.now.signs c.row.now.queue full c.shared.store.now c.shared.image.now c.shared.sram.now

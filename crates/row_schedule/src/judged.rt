@@ -12,6 +12,6 @@ pub struct Judged<'a> {
     pub k: u32,
     pub row: &'a Row,
     pub shared: Shared<'a>,
-    pub ghost accepted: { accepted_of (row_decline_of shared.g k row.now.signs row.now.count row.now.queue row.now.last
+    pub ghost accepted: { accepted_of (row_decline_of shared.layout.geometry k row.now.signs row.now.count row.now.queue row.now.last
         (length shared.store.now) (length shared.image.now) (length shared.sram.now)) ≡ true },
 }

@@ -15,6 +15,7 @@ use crate::answer::{Scheduled, ServedSign};
 use crate::choice::Choice;
 use crate::judged::Judged;
 use geometry::banks::Geometry;
+use geometry::layout::Layout;
 use row_judge::row_decline;
 use row_signs::row::Row;
 use row_turn::{Shared, serve};
@@ -23,17 +24,17 @@ use words::decline::Decline;
 // The turn of the record that is served, or nothing where nobody is.
 #[tactic(auto, unfolding(crate::specs::Schedule::serving_of))]
 fn serve_choice(
-    g: Geometry,
+    layout: Layout,
     row: &Row,
     choice: Choice,
     store: &mut [u32],
     image: &[u32],
     sram: &[u32],
 ) -> Scheduled
-    requires row_sound { RowSound g store.old row.now.signs row.now.count }
+    requires row_sound { RowSound layout.geometry store.old row.now.signs row.now.count }
     requires listed { IfSome choice.served (λ j. j < row.now.count) }
     ensures { scheduling_from row.now.count row.now.queue row.now.last (Ok result) store.new
-        ≡ serving_of g row.now.signs row.now.count (choice_from row.now.count choice) row.now.last store.old image.now sram.now }
+        ≡ serving_of layout.geometry row.now.signs row.now.count (choice_from row.now.count choice) row.now.last store.old image.now sram.now }
 {
     let Some(number) = choice.served else {
         return Scheduled {
@@ -41,7 +42,7 @@ fn serve_choice(
             queue: choice.queue,
         };
     };
-    let t = serve(g, row.signs[number], store, image, sram);
+    let t = serve(layout, row.signs[number], store, image, sram);
     Scheduled {
         served: Some(ServedSign {
             number: number as u32,
@@ -65,17 +66,17 @@ pub fn schedule_row<'a>(
     ensures { scheduling_from row.now.count row.now.queue row.now.last result store.new
         ≡ schedule_row_of g k row.now.signs row.now.count row.now.queue row.now.last store.old image.now sram.now }
 {
-    row_decline(g, k, row, store.len(), image.len(), sram.len())?;
+    let layout = row_decline(g, k, row, store.len(), image.len(), sram.len())?;
     let judged = Judged {
         k,
         row,
         shared: Shared {
-            g,
+            layout,
             store,
             image,
             sram,
         },
     };
     let choice = judged.choose();
-    Ok(serve_choice(g, row, choice, store, image, sram))
+    Ok(serve_choice(layout, row, choice, store, image, sram))
 }

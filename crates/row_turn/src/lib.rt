@@ -11,7 +11,6 @@ ghost use Rattle.row_turn.specs.SignTurn.{part_of, sign_state_of, sign_turn_of, 
 
 use device::registers::Nvmcon;
 use flash::write::Write;
-use geometry::banks::Geometry;
 use geometry::layout::Layout;
 use row_signs::sign::Sign;
 use update::turn::TurnChange;
@@ -34,10 +33,10 @@ pub struct SignTurned {
     pub event: bool,
 }
 
-// What the turns of a row's signs share: the geometry, the store with all their banks, the image and the SRAM.
+// What the turns of a row's signs share: the layout, the store with all their banks, the image and the SRAM.
 #[derive(Clone, Copy)]
 pub struct Shared<'a> {
-    pub g: Geometry,
+    pub layout: Layout,
     pub store: &'a [u32],
     pub image: &'a [u32],
     pub sram: &'a [u32],
@@ -46,18 +45,17 @@ pub struct Shared<'a> {
 impl Shared<'_> {
     // What a sign's turn does, from its two parts of the store, both only read.
     fn effect(&self, s: Sign) -> Result<TurnChange, Decline>
-        requires in_range { InRange self.now.g }
-        requires lies { Lies self.now.g self.now.store.now s }
-        ensures result_value { effected_of (sign_state_of self.now.g self.now.store.now s) (turn_effect_from s.device s.place result)
-            ≡ sign_turn_of self.now.g self.now.store.now self.now.image.now self.now.sram.now s }
-        ensures fits { Fits (part_of self.now.store.now s.one (bank_words_of self.now.g)) (part_of self.now.store.now s.two (bank_words_of self.now.g))
+        requires { Lies self.now.layout.geometry self.now.store.now s }
+        ensures result_value { effected_of (sign_state_of self.now.layout.geometry self.now.store.now s) (turn_effect_from s.device s.place result)
+            ≡ sign_turn_of self.now.layout.geometry self.now.store.now self.now.image.now self.now.sram.now s }
+        ensures fits { Fits (part_of self.now.store.now s.one (bank_words_of self.now.layout.geometry)) (part_of self.now.store.now s.two (bank_words_of self.now.layout.geometry))
             (turn_effect_from s.device s.place result).write }
     {
-        let words = bank_words(self.g) as usize;
+        let words = self.layout.bank_words() as usize;
         let one = s.one as usize;
         let two = s.two as usize;
         turn_effect(
-            self.g,
+            self.layout.geometry,
             s.device,
             &self.store[one..one + words],
             &self.store[two..two + words],
@@ -69,9 +67,8 @@ impl Shared<'_> {
 
     // What a sign's turn would do, for the choice.
     pub fn look_at(&self, s: Sign) -> Look
-        requires in_range { InRange self.now.g }
-        requires lies { Lies self.now.g self.now.store.now s }
-        ensures { result ≡ look_of self.now.g self.now.store.now self.now.image.now self.now.sram.now s }
+        requires { Lies self.now.layout.geometry self.now.store.now s }
+        ensures { result ≡ look_of self.now.layout.geometry self.now.store.now self.now.image.now self.now.sram.now s }
     {
         match self.effect(s) {
             Ok(change) => {

@@ -15,11 +15,8 @@ bounds-self-number c =
     let inside = number_inside c.args.self.now _ c.waiting-number-items.ensures c.loop-p.p c.loop-p-test.true in
     omega arith
 
-pub look_at-requires-clause-in_range : goal.look_at-requires-clause-in_range
-look_at-requires-clause-in_range c = (sound c.args.self.now).range
-
-pub look_at-requires-clause-lies : goal.look_at-requires-clause-lies
-look_at-requires-clause-lies c =
+pub look_at-requires : goal.look_at-requires
+look_at-requires c =
     (sound c.args.self.now).lies _ (number_inside c.args.self.now _ c.waiting-number-items.ensures c.loop-p.p c.loop-p-test.true)
 
 pub returns-then-look_at : goal.returns-then-look_at

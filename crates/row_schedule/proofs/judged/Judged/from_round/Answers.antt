@@ -14,7 +14,7 @@ joined_queue-requires c =
       queue_sound = waiting s;
       marks_new =
           λ j l marked.
-          joins_new s.shared.g s.row.now.signs s.row.now.queue c.args.full s.shared.store.now s.shared.image.now s.shared.sram.now s.row.now.count s.row.now.last j
+          joins_new s.shared.layout.geometry s.row.now.signs s.row.now.queue c.args.full s.shared.store.now s.shared.image.now s.shared.sram.now s.row.now.count s.row.now.last j
           (sym (c.search-round.ensures.told.begins j l) ∙ marked);
     }
 

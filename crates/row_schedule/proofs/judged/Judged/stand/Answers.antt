@@ -9,11 +9,8 @@ offset_bounds-self-j c = let few = (sound c.args.self.now).few in omega arith
 pub bounds-self-j : goal.bounds-self-j
 bounds-self-j c = let few = (sound c.args.self.now).few in omega arith
 
-pub look_at-look-requires-clause-in_range : goal.look_at-look-requires-clause-in_range
-look_at-look-requires-clause-in_range c = (sound c.args.self.now).range
-
-pub look_at-look-requires-clause-lies : goal.look_at-look-requires-clause-lies
-look_at-look-requires-clause-lies c = (sound c.args.self.now).lies c.args.j c.requires
+pub look_at-look-requires : goal.look_at-look-requires
+look_at-look-requires c = (sound c.args.self.now).lies c.args.j c.requires
 
 pub waiting-requires : goal.waiting-requires
 waiting-requires c = (waiting c.args.self.now).room
