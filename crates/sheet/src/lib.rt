@@ -35,7 +35,12 @@ fn put_bank(out: &mut [u8], at: usize, bank: SheetBank)
     ensures { out.new ≡ sets out.old at (bank_lines_of bank.entry.layout.geometry bank.entry.d bank.entry.words.now bank.entry.second) }
 {
     put_kind(out, at, bank, false);
-    put_kind(out, at + LINE_BYTES * bank.layout.geometry.b as usize, bank, true);
+    put_kind(
+        out,
+        at + LINE_BYTES * bank.layout.geometry.b as usize,
+        bank,
+        true,
+    );
 }
 
 // Declines 1, 2, 3 and 18, by the lengths of the banks and the buffer.

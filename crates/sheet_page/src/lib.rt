@@ -77,7 +77,11 @@ fn page_index(layout: Layout, program: bool, page: u32) -> u32
     requires { page < kind_pages_of layout.geometry program }
     ensures { result ≡ page_index_of layout.geometry program page }
 {
-    if program { layout.geometry.b + page } else { page }
+    if program {
+        layout.geometry.b + page
+    } else {
+        page
+    }
 }
 
 impl<'a> SheetBank<'a> {
