@@ -1,15 +1,14 @@
 -- What decline 15 tells of the numbers of a plan.
 -- Assumes nothing.
 use mathlib.Core.Path.{◌≡◌}
-use mathlib.Core.Bool.{true, false, ◌&&◌, and-false}
+use mathlib.Core.Bool.{true, ◌&&◌}
 use mathlib.Core.List.{List}
-use Prim.Native.Nat.{ℕ, ◌+◌, ◌/◌, ◌%◌, ◌≤◌, ◌<◌}
-use native.Mathlib.Numerals.{add-one}
+use Prim.Native.Nat.{ℕ, ◌/◌, ◌%◌, ◌≤◌, ◌<◌}
 use native.Mathlib.Omega.{arith}
 use lib.Dec.{ltb, leb, eqb}
 use lib.ListN.{length}
 use borrow.Author.Tests.{ltb-true, leb-true, eqb-true, lt-ltb, le-leb, eq-eqb}
-use Rattle.words.proofs.PickLaws.{and_both, all-below, all_hold, not_all_below}
+use Rattle.words.proofs.PickLaws.{and_both, all-below, all_hold}
 use Rattle.planner.specs.Windows.{week, Window, window_count_of, window_at, window_in_range_of, windows_in_range_of, numbers_in_range_of, in_range_of}
 use Rattle.planner.specs.PlanLaws.{InRange}
 
@@ -48,23 +47,8 @@ window_range w h =
     let second = and_both (leb 1 w.length) (leb w.length week) first.1 in
     (ltb-true _ _ first.0, leb-true _ _ second.1)
 
--- a window more
-pub windows_more : (lent : List ℕ) (i : ℕ) → windows_in_range_of lent i ≡ true → window_in_range_of (window_at lent i) ≡ true
-    → windows_in_range_of lent (i + 1) ≡ true
-windows_more lent i all next = rw (add-one i, all, next)
-
 module _ (minute duration : ℕ) (lent : List ℕ) where
-  pub numbers_out : numbers_in_range_of minute duration (length lent) ≡ false → in_range_of minute duration lent ≡ false
-  unfolding in_range_of
-  numbers_out h = rw h
-
-  pub window_out : (i : ℕ) → i < window_count_of lent → window_in_range_of (window_at lent i) ≡ false → in_range_of minute duration lent ≡ false
-  unfolding in_range_of
-  window_out i l h =
-      rw (not_all_below (λ (k : ℕ). window_in_range_of (window_at lent k)) (window_count_of lent) i l h)
-      (and-false (numbers_in_range_of minute duration (length lent)))
-
-  pub all_in : numbers_in_range_of minute duration (length lent) ≡ true → windows_in_range_of lent (window_count_of lent) ≡ true
+  all_in : numbers_in_range_of minute duration (length lent) ≡ true → windows_in_range_of lent (window_count_of lent) ≡ true
       → in_range_of minute duration lent ≡ true
   unfolding in_range_of
   all_in numbers all = rw (numbers, all)

@@ -11,7 +11,7 @@ use Rattle.script_format.specs.declared.Record.{Record}
 use Rattle.script_format.specs.Records.{low_bytes, bytes_of}
 
 -- the four bytes at a position
-abbrev pub four : List ℕ → ℕ → Record → List ℕ
+abbrev four : List ℕ → ℕ → Record → List ℕ
 four out at r = set (set (set (set out at (r.kind % 256)) (at + 1) (r.number % 256)) (at + 2) (r.form % 256)) (at + 3) (r.unused % 256)
 
 pub put-record : (out : List ℕ) (at : ℕ) (r : Record) → at + 8 ≤ length out

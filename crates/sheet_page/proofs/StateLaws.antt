@@ -20,7 +20,7 @@ pub quads_in_bank : (g : Geometry) → InRange g → (program : Bool) (page : �
 quads_in_bank g ok program page l = omega (arith, page_in_bank_lem g ok (page_index_of g program page) (index_in_bank g program page l))
 
 -- a quad counts for 1 at most, and so many quads for so many
-pub used_one : (quad : List ℕ) → used_of quad ≤ 1
+used_one : (quad : List ℕ) → used_of quad ≤ 1
 used_one quad = pick_both (λ n. n ≤ 1) (is_blank_of quad) (omega arith) (omega arith)
 
 pub used_at_most : (bank : List ℕ) (first n : ℕ) → used_quads_of bank first n ≤ n

@@ -44,7 +44,8 @@ one_used bank i = go (is_blank_of (quad_at bank i))
     go true = refl
     go false = refl
 
-pub used-filter : (bank : List ℕ) (first n : ℕ) → length (filter (λ (i : ℕ). not (is_blank_of (quad_at bank i))) (range_with_len first n)) ≡ used_quads_of bank first n
+pub used-filter : (bank : List ℕ) (first n : ℕ)
+    → length (filter (λ (i : ℕ). not (is_blank_of (quad_at bank i))) (range_with_len first n)) ≡ used_quads_of bank first n
 used-filter bank first zero = refl
 used-filter bank first (suc n) =
     let test = λ (i : ℕ). not (is_blank_of (quad_at bank i)) in

@@ -63,7 +63,7 @@ unfolding width_of
 width_one zero l = refl
 width_one (suc n) l = rw (lt-ltb (suc n) 10 l)
 
-pub width_more : (n : ℕ) → 10 ≤ n → width_of n ≡ suc (width_of (n / 10))
+width_more : (n : ℕ) → 10 ≤ n → width_of n ≡ suc (width_of (n / 10))
 unfolding width_of
 width_more zero l = absurd (omega arith)
 width_more (suc n) l = rw (le-ltb (suc n) 10 l, within_enough n (suc n / 10) (suc n / 10) (omega arith) (omega arith))

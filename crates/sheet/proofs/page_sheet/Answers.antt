@@ -1,5 +1,5 @@
 -- Declined, nothing is written; accepted, there is room for both banks, the second after the first.
-use Rattle.std.proofs.Common.{◌≡◌, ◌*◌, Ok, sym, ap, arith, length}
+use Rattle.std.proofs.Common.{◌≡◌, ◌*◌, sym, ap, arith, length}
 use Rattle.words.specs.Decline.{accepted_of}
 use Rattle.geometry.specs.Banks.{pages_of}
 use Rattle.sheet.specs.Sheet.{sheet_bytes_of, page_sheet_of}

@@ -9,6 +9,10 @@ pub returns : goal.returns
 returns c =
     let a = c.args in
     let padding = a.columns - c.width.result in
-    let count : length (take (a.at + padding - a.at) (drop a.at a.out.now)) ≡ padding = simp (length-take, length-drop) (omega (arith, c.requires.columns_in_bounds)) in
+    let count : length (take (a.at + padding - a.at) (drop a.at a.out.now)) ≡ padding =
+    simp (length-take, length-drop) (omega (arith, c.requires.columns_in_bounds)) in
     let filled : c.fill.new.self ≡ replicate padding blank = c.fill.ensures.after (λ y e. e) ∙ ap (λ (n : ℕ). replicate n blank) count in
-    c.put_decimal.ensures.0 ∙ rw filled (put-right-column a.out.now a.at a.columns a.number a.end padding c.requires.number_bound c.requires.columns_in_bounds (omega (arith, c.width.ensures)))
+    c.put_decimal.ensures.0
+    ∙ rw filled
+    (put-right-column a.out.now a.at a.columns a.number a.end padding
+    c.requires.number_bound c.requires.columns_in_bounds (omega (arith, c.width.ensures)))

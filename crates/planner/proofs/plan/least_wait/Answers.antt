@@ -16,8 +16,15 @@ min-requires-clause-can c =
     let closure = c.filter_map.ensures.closure in
     let half : window_count_of lent ≡ r.count = omega (arith, r.numbers) in
     let starts : (i : ℕ) → i < length lent / 2 → get_or lent (2 * i) 0 < week = λ i l. r.starts i (omega (arith, l)) in
-    let lengths : (i : ℕ) → i < length lent / 2 → get_or lent (2 * i + 1) 0 ≤ week = λ i l. (r.lengths i (omega (arith, l))).1 in
-    (tt, tt, serves_from_Range (λ x q k. search (rules, tests)) (λ x l h. let below = rw source at h in let s = starts x below in let e = lengths x below in search (rules, r.present, r.some, r.most)))
+    let lengths : (i : ℕ) → i < length lent / 2 → get_or lent (2 * i + 1) 0 ≤ week = λ i l. (r.lengths i (omega (arith, l))).1 in (
+      tt,
+      tt,
+      serves_from_Range (λ x q k. search (rules, tests)) (λ x l h.
+          let below = rw source at h in
+          let start = starts x below in
+          let end = lengths x below in
+          search (rules, r.present, r.some, r.most)),
+    )
 
 pub returns : goal.returns
 returns c =
