@@ -6,8 +6,8 @@ ghost use Rattle.yohrundel_row.specs.Schedule.{rowed, schedule_of};
 
 use geometry::banks::Geometry;
 use row_list::{few, gather, keep_sign};
-use row_schedule::answer::{ScheduleAnswer, whom};
-use row_schedule::schedule_row;
+use row_schedule::answer::ScheduleAnswer;
+use row_schedule::{schedule_row, whom};
 use row_signs::queue::Queue;
 use row_signs::row::Row;
 use row_signs::sign::Sign;
