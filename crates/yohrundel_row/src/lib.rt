@@ -12,7 +12,7 @@ use row_signs::queue::Queue;
 use row_signs::row::Row;
 use row_signs::sign::Sign;
 
-// The records are gathered, the call is by value, and the one record that it served is kept.
+// The records are gathered by value, the call reads them, and the one record that it served is kept.
 #[unsafe(no_mangle)]
 pub extern "C" fn yohrundel_schedule(
     g: Geometry,
