@@ -5,17 +5,17 @@ use mathlib.Core.Bool.{Bool, true, false}
 use mathlib.Core.List.{List, [], ◌∷◌}
 use native.Mathlib.Omega.{arith}
 use native.Mathlib.Decide.{dec_lt}
-use lib.Dec.{eqb, ltb}
+use lib.Dec.{ltb}
 use borrow.Author.Tests.{ltb-true, lt-ltb}
 use Rattle.std.proofs.Common.{Option, Some, None, count_by, add-one}
 use Rattle.std.proofs.lemmas.List.Sums.{count_by_more_yes, count_by_more_no}
 use lib.ListN.{length, get_or, take, get_or-append}
 use lib.Seq.{get_or-append_seam}
-use Rattle.words.specs.Word.{pick, any_below, first_from}
+use Rattle.words.specs.Word.{pick, first_from}
 use Rattle.words.proofs.FirstLaws.{first_is}
 use Rattle.row_signs.specs.declared.queue.Queue.{Queue}
 use Rattle.row_signs.specs.declared.sign.Sign.{Sign}
-use Rattle.row_signs.specs.Signs.{past_end, sign_at, entries_of, waiting_of, waits_of}
+use Rattle.row_signs.specs.Signs.{past_end, sign_at, entries_of, waiting_of}
 use Rattle.row_queue.proofs.QueueLaws.{entries_length}
 use Rattle.row_choice.specs.Choice.{count_of}
 use Rattle.row_schedule.specs.Calls.{some_below}
@@ -69,18 +69,6 @@ entry_is numbers (suc n) p l = go (dec_lt p n) (entry_is numbers n p)
         ap (λ (k : ℕ). get_or (entries_of numbers (suc n)) k 0) (sym at)
         ∙ get_or-append_seam (entries_of numbers n) (get_or numbers n 0) [] 0
         ∙ ap (λ (k : ℕ). get_or numbers k 0) same
-
--- tests that agree below n
-any_same : (p q : ℕ → Bool) (n : ℕ) → ((k : ℕ) → k < n → p k ≡ q k) → any_below p n ≡ any_below q n
-any_same p q zero same = refl
-any_same p q (suc n) same = rw (any_same p q n (λ k l. same k (omega (arith, l))), same n (omega arith)) refl
-
--- a record that is listed waits
-pub listed_waits : (queue : Queue) (j : ℕ) → any_below (λ e. eqb (get_or queue.numbers e 0) j) queue.count ≡ waits_of (waiting_of queue) j
-listed_waits queue j =
-    any_same (λ e. eqb (get_or queue.numbers e 0) j) (λ e. eqb (get_or (waiting_of queue) e 0) j) queue.count
-    (λ k l. ap (λ (number : ℕ). eqb number j) (sym (entry_is queue.numbers queue.count k l)))
-    ∙ ap (λ (n : ℕ). any_below (λ e. eqb (get_or (waiting_of queue) e 0) j) n) (sym (entries_length queue.numbers queue.count))
 
 -- the first entry of a queue of which a test holds
 pub first_entry : (queue : Queue) (can : ℕ → Bool) (p : ℕ) → p ≤ queue.count → (p < queue.count → can (get_or queue.numbers p 0) ≡ true)

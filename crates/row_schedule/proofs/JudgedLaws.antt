@@ -1,5 +1,6 @@
 -- What holds of a call that is not declined. Assumes nothing.
-use Rattle.std.proofs.Common.{ℕ, ◌≤◌, ◌<◌, ◌≡◌, Bool, not, ◌&&◌, leb, List, length, sym, le-leb, nat_eq, get_or, true, false, Option, Some, None, refl, ap, ◌∙◌, lt-ltb, le-ltb, arith}
+use Rattle.std.proofs.Common.{ℕ, ◌≤◌, ◌<◌, ◌≡◌, Bool, true, false, not, ◌&&◌, leb, nat_eq, List, length, get_or, Option, Some, None}
+use Rattle.std.proofs.Common.{refl, sym, ap, ◌∙◌, le-leb, lt-ltb, le-ltb, arith}
 use Rattle.std.specs.List.{list_any}
 use Rattle.std.proofs.Math.Seq.{take_all}
 use Rattle.row_signs.proofs.ListLaws.{any_taken}
@@ -37,7 +38,8 @@ module _ (c : Judged) where
   last_inside = queue_both.1
 
   -- how a record stands, by what a look at it tells and by whether it is one of those that wait
-  pub standing_at : (full : Bool) (j : ℕ) (look : Look) → look ≡ look_of c.shared.layout.geometry c.shared.store.now c.shared.image.now c.shared.sram.now (sign_at c.row.now.signs j)
+  pub standing_at : (full : Bool) (j : ℕ) (look : Look)
+      → look ≡ look_of c.shared.layout.geometry c.shared.store.now c.shared.image.now c.shared.sram.now (sign_at c.row.now.signs j)
       → (numbers : List ℕ) → numbers ≡ waiting_of c.row.now.queue → (waits : Bool) → waits ≡ list_any (λ y. nat_eq y j) numbers
       → standing_of (record { free = look.can && not waits; held = look.sets && full }) ≡ standing_of (stands_at c full j)
   unfolding stand_of
@@ -54,7 +56,7 @@ module _ (c : Judged) where
 
   -- the numbers that wait, as the queue has them
   module _ (numbers : List ℕ) (en : numbers ≡ waiting_of c.row.now.queue) where
-    pub numbers_length : length numbers ≡ c.row.now.queue.count
+    numbers_length : length numbers ≡ c.row.now.queue.count
     numbers_length = ap length en ∙ entries_length c.row.now.queue.numbers c.row.now.queue.count
 
     pub number_is : (p : ℕ) → p < length numbers → get_or numbers p 0 ≡ get_or c.row.now.queue.numbers p 0

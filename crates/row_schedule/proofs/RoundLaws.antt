@@ -28,7 +28,7 @@ use Rattle.row_schedule.proofs.ChoiceLaws.{entry_is, none_more}
 -- ---- the search
 
 -- a record that is served where it is met
-abbrev pub passes : Stand → Bool
+abbrev passes : Stand → Bool
 passes s = s.free && not s.held
 
 -- one that would begin to wait there
@@ -79,7 +79,7 @@ module _ (n last : ℕ) (few : n ≤ 32) (inside : last < n) (stand : ℕ → St
 
   module _ (begins : List Bool) (i : ℕ) (so_far : Searching n last stand begins i) where
     -- a record that is not served, marked if it begins to wait
-    pub search_next : i < n → (s : Stand) → s ≡ stand (met_of n last i) → passes s ≡ false
+    search_next : i < n → (s : Stand) → s ≡ stand (met_of n last i) → passes s ≡ false
         → Searching n last stand (set begins (met_of n last i) (waits s)) (i + 1)
     search_next l s e failed =
         record {

@@ -1,6 +1,6 @@
 // What a call leaves, and what it answers.
 ghost use Rattle.std.specs.Prelude.{◌≡◌};
-ghost use Rattle.row_schedule.specs.Schedule.{whom_from, answer_from};
+ghost use Rattle.row_schedule.specs.Schedule.{answer_from};
 
 use row_signs::queue::Queue;
 use row_signs::sign::Sign;
@@ -19,16 +19,6 @@ pub struct ServedSign {
 pub struct Scheduled {
     pub served: Option<ServedSign>,
     pub queue: Queue,
-}
-
-// The record that a call serves, by what it leaves or why it is declined.
-pub fn whom(outcome: &Result<Scheduled, Decline>) -> Option<ServedSign>
-    ensures { result ≡ whom_from outcome.now }
-{
-    match outcome {
-        Ok(scheduled) => scheduled.served,
-        Err(_) => None,
-    }
 }
 
 // What a call answers: beside a decline queue and last served are as handed over.

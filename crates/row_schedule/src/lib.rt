@@ -9,7 +9,7 @@ mod round;
 
 ghost use Rattle.std.specs.Prelude.{◌≡◌, ◌<◌, IfSome, Ok};
 ghost use Rattle.row_schedule.specs.Round.{RowSound, choice_from};
-ghost use Rattle.row_schedule.specs.Schedule.{serving_of, scheduling_from, schedule_row_of};
+ghost use Rattle.row_schedule.specs.Schedule.{serving_of, whom_from, scheduling_from, schedule_row_of};
 
 use crate::answer::{Scheduled, ServedSign};
 use crate::choice::Choice;
@@ -79,4 +79,14 @@ pub fn schedule_row<'a>(
     };
     let choice = judged.choose();
     Ok(serve_choice(layout, row, choice, store, image, sram))
+}
+
+// The record that a call serves, by what it leaves or why it is declined.
+pub fn whom(outcome: &Result<Scheduled, Decline>) -> Option<ServedSign>
+    ensures { result ≡ whom_from outcome.now }
+{
+    match outcome {
+        Ok(scheduled) => scheduled.served,
+        Err(_) => None,
+    }
 }

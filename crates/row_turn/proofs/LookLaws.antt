@@ -43,7 +43,7 @@ unfolding sign_turning_of
 served g store image sram s e h words ew after ea = rw (ea, ew) (ap (λ (t : Turning). sign_turning_in store s t) h)
 
 -- a verdict that declines does not accept
-pub err_declines : (e : Decline) → accepted_of (Err e) ≡ false
+err_declines : (e : Decline) → accepted_of (Err e) ≡ false
 err_declines e = never_true (accepted_of (Err e)) (λ h. let same : ◌≡◌ {A = Verdict} (Err e) (Ok tt) = numbers.one (Err e) (Ok tt) (eqb-true _ _ h) in cc)
 
 -- where the turn is declined there is nothing to look for, and everything stays as it is

@@ -6,13 +6,13 @@ ghost use Rattle.yohrundel_row.specs.Schedule.{rowed, schedule_of};
 
 use geometry::banks::Geometry;
 use row_list::{few, gather, keep_sign};
-use row_schedule::answer::{ScheduleAnswer, whom};
-use row_schedule::schedule_row;
+use row_schedule::answer::ScheduleAnswer;
+use row_schedule::{schedule_row, whom};
 use row_signs::queue::Queue;
 use row_signs::row::Row;
 use row_signs::sign::Sign;
 
-// The records are gathered, the call is by value, and the one record that it served is kept.
+// The records are gathered by value, the call reads them, and the one record that it served is kept.
 #[unsafe(no_mangle)]
 pub extern "C" fn yohrundel_schedule(
     g: Geometry,

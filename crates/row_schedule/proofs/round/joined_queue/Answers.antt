@@ -29,7 +29,8 @@ pub join-waiting-requires : goal.join-waiting-requires
 join-waiting-requires c =
     let a = c.args in
     has_room a.queue a.n a.begins c.requires.n_bound c.requires.queue_sound c.requires.marks_new _ c.without-waiting.ensures
-    c.loop-j.waiting c.loop-j.j c.loop-j.invariant (omega (arith, length-take a.n a.begins)) (mark a.begins a.n c.loop-j.j true c.loop-j-test.true c.if-begin.true)
+    c.loop-j.waiting c.loop-j.j c.loop-j.invariant (omega (arith, length-take a.n a.begins))
+    (mark a.begins a.n c.loop-j.j true c.loop-j-test.true c.if-begin.true)
 
 pub loop-j-preserved : goal.loop-j-preserved
 loop-j-preserved c =

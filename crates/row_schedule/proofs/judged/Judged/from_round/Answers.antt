@@ -14,8 +14,8 @@ joined_queue-requires c =
       queue_sound = waiting s;
       marks_new =
           λ j l marked.
-          joins_new s.shared.layout.geometry s.row.now.signs s.row.now.queue c.args.full s.shared.store.now s.shared.image.now s.shared.sram.now s.row.now.count s.row.now.last j
-          (sym (c.search-round.ensures.told.begins j l) ∙ marked);
+          joins_new s.shared.layout.geometry s.row.now.signs s.row.now.queue c.args.full s.shared.store.now s.shared.image.now s.shared.sram.now
+          s.row.now.count s.row.now.last j (sym (c.search-round.ensures.told.begins j l) ∙ marked);
     }
 
 pub returns-clause-value : goal.returns-clause-value
