@@ -36,7 +36,8 @@ use Rattle.script_record.specs.Record.{mask_zero, record_after_of}
 -- ---- what holds of every answer that a call can give holds of the call's answer
 
 module _ (P : Verdict → Type 0) (g : Geometry) (d : Device) (accepted : P (Ok tt)) where
-  store-answer : (r form value : ℕ) → P (common_decline_of g d [] 0) → P (Err Decline.Register) → P (Err Decline.Running) → P (store_of g d r form value).decline
+  store-answer : (r form value : ℕ) → P (common_decline_of g d [] 0) → P (Err Decline.Register) → P (Err Decline.Running)
+      → P (store_of g d r form value).decline
   unfolding store_of store_accepted_of store_decline_of
   store-answer r form value common register run =
       pick_both (λ (a : Answer). P a.decline) (accepted_of (store_decline_of g d r form))

@@ -21,12 +21,13 @@ returns-else-not-may_store-clause-result_value c =
     let a = c.args in
     let may : may_store_of a.d c.in-Store.number ≡ true = sym c.may_store.ensures ∙ c.if-not-may_store.false in
     let formed = rw c.in-Store.is at c.requires.formed in
+    let o = c.store_accepted.result in
     rw (c.going.ensures, c.in-Store.is, may)
     (ap
     (λ (w : Write).
     effected_of (state a.d a.one.now a.two.now)
     (record {
-      turned = turned_from a.d a.place (Ok (record { done = false; device = c.store_accepted.result.device; place = a.place + 1; event = c.store_accepted.result.event }));
+      turned = turned_from a.d a.place (Ok (record { done = false; device = o.device; place = a.place + 1; event = o.event }));
       write = w;
     })) c.no_write.ensures
     ∙ rw (store_carried a.layout.geometry a.d _ _ _ c.requires.g_value c.requires.d_value formed may, ← c.store_accepted.ensures) refl)
