@@ -1,5 +1,7 @@
 // What the exported calls answer. In each, decline is 0 or the paper's number of why the call was declined.
+use device::outcome::Outcome;
 use device::record::Device;
+use words::decline::Decline;
 
 // The answer to a store and to a step.
 #[repr(C)]
@@ -8,6 +10,30 @@ pub struct EventAnswer {
     pub decline: u32,
     pub event: bool,
     pub device: Device,
+}
+
+impl EventAnswer {
+    ghost use Rattle.std.specs.Prelude.{◌≡◌};
+    ghost use Rattle.device.specs.Answer.{answer_from};
+    ghost use Rattle.yohrundel.specs.Answers.{store_answer_of};
+
+    // Of a call on this device.
+    pub fn of(d: Device, outcome: Result<Outcome, Decline>) -> Self
+        ensures { result ≡ store_answer_of (answer_from d outcome) }
+    {
+        match outcome {
+            Ok(o) => EventAnswer {
+                decline: 0,
+                event: o.event,
+                device: o.device,
+            },
+            Err(decline) => EventAnswer {
+                decline: decline.number(),
+                event: false,
+                device: d,
+            },
+        }
+    }
 }
 
 // The answer to a start-up.

@@ -14,7 +14,7 @@ use bank_parts::{lower_bank_decline, page_decline};
 use device::record::Device;
 use device::registers::Nvmcon;
 use flash::step::step;
-use geometry::banks::{Geometry, page_words};
+use geometry::banks::Geometry;
 use reads::flash_read;
 use resets::reset;
 use words::word::has;
@@ -30,14 +30,19 @@ pub extern "C" fn yohrundel_flash_read_3(
 ) -> FlashReadAnswer
     ensures { FlashReadGives (flash_read_of g (state d one.old two.old) sram.now address) result one.new two.new }
 {
-    let a = flash_read(g, d, one, two, sram, address);
-    let decline = a.decline;
-    let device = a.device;
-    FlashReadAnswer {
-        decline: decline.number(),
-        word: a.word,
-        event: a.event,
-        device,
+    match flash_read(g, d, one, two, sram, address) {
+        Ok(r) => FlashReadAnswer {
+            decline: 0,
+            word: r.word,
+            event: r.event,
+            device: r.device,
+        },
+        Err(decline) => FlashReadAnswer {
+            decline: decline.number(),
+            word: 0,
+            event: false,
+            device: d,
+        },
     }
 }
 
@@ -52,8 +57,7 @@ pub extern "C" fn yohrundel_lower_bank_2(
 ) -> LowerBankAnswer
     ensures { result ≡ lower_bank_answer_of g d one.now two.now }
 {
-    let decline = lower_bank_decline(g, d, one, two);
-    if !decline.is_accepted() {
+    if let Err(decline) = lower_bank_decline(g, d, one, two) {
         return LowerBankAnswer {
             decline: decline.number(),
             bank: 0,
@@ -61,16 +65,17 @@ pub extern "C" fn yohrundel_lower_bank_2(
         };
     }
     if has(d.nvmcon.0, Nvmcon::BFSWAP) {
-        return LowerBankAnswer {
+        LowerBankAnswer {
             decline: 0,
             bank: 2,
             length: two.len(),
-        };
-    }
-    LowerBankAnswer {
-        decline: 0,
-        bank: 1,
-        length: one.len(),
+        }
+    } else {
+        LowerBankAnswer {
+            decline: 0,
+            bank: 1,
+            length: one.len(),
+        }
     }
 }
 
@@ -81,19 +86,20 @@ pub extern "C" fn yohrundel_page(g: Geometry, bank: &[u32], page: u32) -> PageAn
     ensures value { result ≡ page_answer_of g (length bank.now) page }
     ensures bank_value { take result.length (drop result.offset bank.now) ≡ page_part_of g bank.now page }
 {
-    let decline = page_decline(g, bank, page);
-    if !decline.is_accepted() {
-        return PageAnswer {
+    match page_decline(g, bank, page) {
+        Ok(layout) => {
+            let words = layout.page_words() as usize;
+            PageAnswer {
+                decline: 0,
+                offset: page as usize * words,
+                length: words,
+            }
+        }
+        Err(decline) => PageAnswer {
             decline: decline.number(),
             offset: 0,
             length: 0,
-        };
-    }
-    let words = page_words(g) as usize;
-    PageAnswer {
-        decline: 0,
-        offset: page as usize * words,
-        length: words,
+        },
     }
 }
 
@@ -107,14 +113,7 @@ pub extern "C" fn yohrundel_step_2(
 ) -> EventAnswer
     ensures { StepGives (step_of g (state d one.old two.old) sram.now) result one.new two.new }
 {
-    let a = step(g, d, one, two, sram);
-    let decline = a.decline;
-    let device = a.device;
-    EventAnswer {
-        decline: decline.number(),
-        event: a.event,
-        device,
-    }
+    EventAnswer::of(d, step(g, d, one, two, sram))
 }
 
 #[unsafe(no_mangle)]
@@ -129,14 +128,16 @@ pub extern "C" fn yohrundel_reset_2(
 ) -> ResetAnswer
     ensures { ResetGives (explained_of g (state d one.old two.old) sram.now kind mask.words) result one.new two.new }
 {
-    let words = mask.words;
-    let a = reset(g, d, one, two, sram, kind, words);
-    let decline = a.decline;
-    let reason = a.reason;
-    let device = a.device;
-    ResetAnswer {
-        decline: decline.number(),
-        reason: reason.number(),
-        device,
+    match reset(g, d, one, two, sram, kind, mask.words) {
+        Ok(r) => ResetAnswer {
+            decline: 0,
+            reason: r.reason.number(),
+            device: r.device,
+        },
+        Err(decline) => ResetAnswer {
+            decline: decline.number(),
+            reason: 4,
+            device: d,
+        },
     }
 }

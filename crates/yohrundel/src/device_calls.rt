@@ -30,14 +30,7 @@ pub extern "C" fn yohrundel_store_2(
 ) -> EventAnswer
     ensures { result ≡ store_answer_of (store_of g d register form value) }
 {
-    let a = store(g, d, register, form, value);
-    let decline = a.decline;
-    let device = a.device;
-    EventAnswer {
-        decline: decline.number(),
-        event: a.event,
-        device,
-    }
+    EventAnswer::of(d, store(g, d, register, form, value))
 }
 
 #[unsafe(no_mangle)]
@@ -48,13 +41,17 @@ pub extern "C" fn yohrundel_register_read_2(
 ) -> RegisterReadAnswer
     ensures { result ≡ register_read_answer_of (register_read_of g d register) }
 {
-    let a = register_read(g, d, register);
-    let decline = a.decline;
-    let device = a.device;
-    RegisterReadAnswer {
-        decline: decline.number(),
-        value: a.value,
-        device,
+    match register_read(g, d, register) {
+        Ok(r) => RegisterReadAnswer {
+            decline: 0,
+            value: r.value,
+            device: r.device,
+        },
+        Err(decline) => RegisterReadAnswer {
+            decline: decline.number(),
+            value: 0,
+            device: d,
+        },
     }
 }
 
@@ -62,11 +59,11 @@ pub extern "C" fn yohrundel_register_read_2(
 pub extern "C" fn yohrundel_start_up_2(g: Geometry, d: Device) -> DeviceAnswer
     ensures { result ≡ start_up_answer_of (start_up_of g d) }
 {
-    let a = start_up(g, d);
-    let decline = a.decline;
-    let device = a.device;
-    DeviceAnswer {
-        decline: decline.number(),
-        device,
+    match start_up(g, d) {
+        Ok(device) => DeviceAnswer { decline: 0, device },
+        Err(decline) => DeviceAnswer {
+            decline: decline.number(),
+            device: d,
+        },
     }
 }

@@ -23,16 +23,9 @@ pub extern "C" fn yohrundel_compare(first: u32, other: u32) -> CompareAnswer
     ensures { result ≡ compare_answer_of (compare_of first other) }
 {
     let c = compare(first, other);
-    let reason = c.reason;
-    if c.second {
-        return CompareAnswer {
-            bank: 2,
-            reason: reason.number(),
-        };
-    }
     CompareAnswer {
-        bank: 1,
-        reason: reason.number(),
+        bank: if c.second { 2 } else { 1 },
+        reason: c.reason.number(),
     }
 }
 
@@ -42,11 +35,12 @@ pub extern "C" fn yohrundel_compare(first: u32, other: u32) -> CompareAnswer
 pub extern "C" fn yohrundel_plan_numbers(minute: u32, duration: u32, windows: &[u32]) -> PlanAnswer
     ensures { result ≡ plan_answer_of (plan_of minute duration windows.now) }
 {
-    let a = plan(minute, duration, windows);
-    let decline = a.decline;
-    PlanAnswer {
-        decline: decline.number(),
-        wait: a.wait,
+    match plan(minute, duration, windows) {
+        Ok(wait) => PlanAnswer { decline: 0, wait },
+        Err(decline) => PlanAnswer {
+            decline: decline.number(),
+            wait: 0,
+        },
     }
 }
 
@@ -61,11 +55,12 @@ pub extern "C" fn yohrundel_page_sheet_2(
 ) -> PageSheetAnswer
     ensures { PageSheetGives (page_sheet_of g d one.now two.now out.old) result out.new }
 {
-    let a = page_sheet(g, d, one, two, out);
-    let decline = a.decline;
-    PageSheetAnswer {
-        decline: decline.number(),
-        bytes: a.bytes,
+    match page_sheet(g, d, one, two, out) {
+        Ok(bytes) => PageSheetAnswer { decline: 0, bytes },
+        Err(decline) => PageSheetAnswer {
+            decline: decline.number(),
+            bytes: 0,
+        },
     }
 }
 
@@ -74,8 +69,10 @@ pub extern "C" fn yohrundel_lanes_out(source: &[u8], target: &mut [u8]) -> u32
     ensures { (result ≡ number_of (lanes_decline_of (length source.now) (length target.old)))
         × (target.new ≡ target_of lanes_out_of source.now target.old) }
 {
-    let decline = lanes_out(source, target);
-    decline.number()
+    match lanes_out(source, target) {
+        Ok(()) => 0,
+        Err(decline) => decline.number(),
+    }
 }
 
 #[unsafe(no_mangle)]
@@ -83,8 +80,10 @@ pub extern "C" fn yohrundel_lanes_back(source: &[u8], target: &mut [u8]) -> u32
     ensures { (result ≡ number_of (lanes_decline_of (length source.now) (length target.old)))
         × (target.new ≡ target_of lanes_back_of source.now target.old) }
 {
-    let decline = lanes_back(source, target);
-    decline.number()
+    match lanes_back(source, target) {
+        Ok(()) => 0,
+        Err(decline) => decline.number(),
+    }
 }
 
 // What two images differ in, and where they differ in one word the place of the action that differs.
@@ -92,43 +91,37 @@ pub extern "C" fn yohrundel_lanes_back(source: &[u8], target: &mut [u8]) -> u32
 pub extern "C" fn yohrundel_reach(g: Geometry, image: &[u32], other: &[u32]) -> ReachResult
     ensures { result ≡ reach_result_of (reach_of g image.now other.now) }
 {
-    let a = reach(g, image, other);
-    let declined = a.decline;
-    let answer = a.answer;
-    let decline = declined.number();
+    let none = ReachResult {
+        decline: 0,
+        kind: 3,
+        place: 0,
+        count: 0,
+        lowest: 0,
+        highest: 0,
+    };
+    let answer = match reach(g, image, other) {
+        Ok(answer) => answer,
+        Err(decline) => {
+            return ReachResult {
+                decline: decline.number(),
+                ..none
+            };
+        }
+    };
     let kind = answer.number();
     match answer {
         ReachAnswer::Action(place) => ReachResult {
-            decline,
             kind,
             place,
-            count: 0,
-            lowest: 0,
-            highest: 0,
+            ..none
         },
+        ReachAnswer::NoAction => ReachResult { kind, ..none },
         ReachAnswer::Words(d) => ReachResult {
-            decline,
             kind,
-            place: 0,
             count: d.count,
             lowest: d.lowest,
             highest: d.highest,
-        },
-        ReachAnswer::NoAction => ReachResult {
-            decline,
-            kind,
-            place: 0,
-            count: 0,
-            lowest: 0,
-            highest: 0,
-        },
-        ReachAnswer::Declined => ReachResult {
-            decline,
-            kind,
-            place: 0,
-            count: 0,
-            lowest: 0,
-            highest: 0,
+            ..none
         },
     }
 }

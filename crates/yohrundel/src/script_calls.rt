@@ -26,13 +26,17 @@ pub extern "C" fn yohrundel_play_2(
     ensures { PlayGives (play_of g sram.now (state d one.old two.old) script.now out.old) result
         one.new two.new out.new }
 {
-    let a = play(g, d, one, two, sram, script, out);
-    let decline = a.decline;
-    let device = a.device;
-    PlayAnswer {
-        decline: decline.number(),
-        bytes: a.bytes,
-        device,
+    match play(g, d, one, two, sram, script, out) {
+        Ok(p) => PlayAnswer {
+            decline: 0,
+            bytes: p.bytes,
+            device: p.device,
+        },
+        Err(decline) => PlayAnswer {
+            decline: decline.number(),
+            bytes: 0,
+            device: d,
+        },
     }
 }
 
@@ -47,11 +51,12 @@ pub extern "C" fn yohrundel_play_length_2(
 ) -> PlayLengthAnswer
     ensures { result ≡ play_length_answer_of (play_length_of g sram.now (lent d one.entry two.entry) script.now) }
 {
-    let a = play_length(g, d, one, two, sram, script);
-    let decline = a.decline;
-    PlayLengthAnswer {
-        decline: decline.number(),
-        bytes: a.bytes,
+    match play_length(g, d, one, two, sram, script) {
+        Ok(bytes) => PlayLengthAnswer { decline: 0, bytes },
+        Err(decline) => PlayLengthAnswer {
+            decline: decline.number(),
+            bytes: 0,
+        },
     }
 }
 
@@ -67,11 +72,15 @@ pub extern "C" fn yohrundel_write_script(
 ) -> WriteScriptAnswer
     ensures { WriteScriptGives (write_script_of g (lent d one.entry two.entry) image.now out.old) result out.new }
 {
-    let a = write_script(g, d, one, two, image, out);
-    let decline = a.decline;
-    WriteScriptAnswer {
-        decline: decline.number(),
-        records: a.records,
+    match write_script(g, d, one, two, image, out) {
+        Ok(records) => WriteScriptAnswer {
+            decline: 0,
+            records,
+        },
+        Err(decline) => WriteScriptAnswer {
+            decline: decline.number(),
+            records: 0,
+        },
     }
 }
 
@@ -94,12 +103,16 @@ pub extern "C" fn yohrundel_smallest(
         scratch1.old scratch2.old res.old) result
         scratch1.new scratch2.new res.new }
 {
-    let a = smallest(
+    match smallest(
         g, d, one, two, sram, scratch1, scratch2, script, number, res,
-    );
-    let decline = a.decline;
-    SmallestAnswer {
-        decline: decline.number(),
-        records: a.records,
+    ) {
+        Ok(records) => SmallestAnswer {
+            decline: 0,
+            records,
+        },
+        Err(decline) => SmallestAnswer {
+            decline: decline.number(),
+            records: 0,
+        },
     }
 }

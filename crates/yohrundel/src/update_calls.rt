@@ -19,11 +19,16 @@ pub extern "C" fn yohrundel_update_start_2(
 ) -> UpdateStartAnswer
     ensures { result ≡ update_start_answer_of (start_of g (lent d one.entry two.entry) image.now) }
 {
-    let a = start(g, d, one, two, image);
-    let decline = a.decline;
-    UpdateStartAnswer {
-        decline: decline.number(),
-        place: a.place,
-        total: a.total,
+    match start(g, d, one, two, image) {
+        Ok(s) => UpdateStartAnswer {
+            decline: 0,
+            place: s.place,
+            total: s.total,
+        },
+        Err(decline) => UpdateStartAnswer {
+            decline: decline.number(),
+            place: 0,
+            total: 0,
+        },
     }
 }

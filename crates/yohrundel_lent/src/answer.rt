@@ -37,14 +37,24 @@ pub fn turn_answer(
     ensures { TurnGives (turn_of g (state d one.old two.old) image.now sram.now place) result.outcome
         (state result.device one.new two.new) }
 {
-    let a = turn(g, d, one, two, image, sram, place);
-    let decline = a.decline;
-    let outcome = TurnOutcome {
-        decline: decline.number(),
-        place: a.place,
-        done: a.done,
-        event: a.event,
-    };
-    let device = a.device;
-    TurnAnswer { device, outcome }
+    match turn(g, d, one, two, image, sram, place) {
+        Ok(t) => TurnAnswer {
+            device: t.device,
+            outcome: TurnOutcome {
+                decline: 0,
+                place: t.place,
+                done: t.done,
+                event: t.event,
+            },
+        },
+        Err(decline) => TurnAnswer {
+            device: d,
+            outcome: TurnOutcome {
+                decline: decline.number(),
+                place,
+                done: false,
+                event: false,
+            },
+        },
+    }
 }
