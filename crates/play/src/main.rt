@@ -2,38 +2,49 @@
 // A read or a write that fails is told on standard error; a failed write there is ignored.
 #![tactic(auto)]
 
-ghost use Rattle.std.specs.Prelude.{◌≤◌, IfOk, length};
+ghost use Rattle.std.specs.Prelude.{◌≤◌, length};
 ghost use Rattle.script_program.specs.Program.{output_room};
 
 use script_program::{LONGEST, OUTPUT, print};
-use std::io;
 use std::io::{Read, Stdin};
 
 // One byte more than the longest script: where all are read, the script is too long.
 const INPUT: usize = LONGEST + 1;
 
-// Reads until the buffer is full or the input ends; gives how many bytes are read.
-fn read_full(mut from: Stdin, input: &mut [u8]) -> io::Result<usize>
-    ensures { IfOk result (λ count. count ≤ length input.new) }
+// Reads until the buffer is full, the input ends or a read fails; gives how many bytes are read.
+fn read_full(mut from: Stdin, input: &mut [u8]) -> usize
+    ensures { result ≤ length input.new }
 {
     let mut count = 0;
     while count < input.len() {
-        match from.read(&mut input[count..])? {
-            0 => break,
-            got => count += got,
+        let got = from.read(&mut input[count..]).unwrap_or(0);
+        if got == 0 {
+            break;
         }
+        count += got;
     }
-    Ok(count)
+    count
+}
+
+// Whether the input ends after the bytes that were read. A read that failed is no end.
+fn is_end(mut from: Stdin, input: &mut [u8], count: usize) -> bool
+    requires { count ≤ length input.old }
+{
+    if input.len() <= count {
+        return true;
+    }
+    matches!(from.read(&mut input[count..]), Ok(0))
 }
 
 // Reads a script and writes what is printed for it; the buffer has room for every output.
 fn play_input(rt: &HostRuntime, input: &mut [u8], out: &mut [u8])
     requires { output_room ≤ length out.old }
 {
-    let Ok(count) = read_full(rt.stdin(), input) else {
+    let count = read_full(rt.stdin(), input);
+    if !is_end(rt.stdin(), input, count) {
         let _ = eprintln!(rt; "play: standard input cannot be read");
         return;
-    };
+    }
     let bytes = print(&input[..count], out);
     if rt.write_all(&out[..bytes]).is_err() {
         let _ = eprintln!(rt; "play: standard output cannot be written");
