@@ -17,44 +17,34 @@ pub struct TurnOutcome {
     pub event: bool,
 }
 
-#[repr(C)]
-#[derive(Clone, Copy)]
-pub struct TurnAnswer {
-    pub device: Device,
-    pub outcome: TurnOutcome,
-}
-
-// A turn, its answer as numbers.
+// A turn with the device lent, its answer as numbers.
 pub fn turn_answer(
     g: Geometry,
-    d: Device,
+    d: &mut Device,
     one: &mut [u32],
     two: &mut [u32],
     image: &[u32],
     sram: &[u32],
     place: u32,
-) -> TurnAnswer
-    ensures { TurnGives (turn_of g (state d one.old two.old) image.now sram.now place) result.outcome
-        (state result.device one.new two.new) }
+) -> TurnOutcome
+    ensures { TurnGives (turn_of g (state d.old one.old two.old) image.now sram.now place) result
+        (state d.new one.new two.new) }
 {
-    match turn(g, d, one, two, image, sram, place) {
-        Ok(t) => TurnAnswer {
-            device: t.device,
-            outcome: TurnOutcome {
+    match turn(g, *d, one, two, image, sram, place) {
+        Ok(t) => {
+            *d = t.device;
+            TurnOutcome {
                 decline: 0,
                 place: t.place,
                 done: t.done,
                 event: t.event,
-            },
-        },
-        Err(decline) => TurnAnswer {
-            device: d,
-            outcome: TurnOutcome {
-                decline: decline.number(),
-                place,
-                done: false,
-                event: false,
-            },
+            }
+        }
+        Err(decline) => TurnOutcome {
+            decline: decline.number(),
+            place,
+            done: false,
+            event: false,
         },
     }
 }

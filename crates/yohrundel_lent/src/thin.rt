@@ -7,7 +7,7 @@ use crate::answer::{TurnOutcome, turn_answer};
 use device::record::Device;
 use geometry::banks::Geometry;
 
-// One turn with the device record lent: taken apart, turned by value, and stored back.
+// One turn with the device record lent.
 #[unsafe(no_mangle)]
 pub extern "C" fn yohrundel_turn_lent_2(
     g: Geometry,
@@ -21,7 +21,5 @@ pub extern "C" fn yohrundel_turn_lent_2(
     ensures { TurnGives (turn_of g (state d.old one.old two.old) image.now sram.now place) result
         (state d.new one.new two.new) }
 {
-    let t = turn_answer(g, *d, one, two, image, sram, place);
-    *d = t.device;
-    t.outcome
+    turn_answer(g, d, one, two, image, sram, place)
 }
