@@ -276,7 +276,8 @@ module _ (u : Fixed) where
           ∙ at_past.action
 
       -- so a turn is declined
-      pub declines : (sram : List ℕ) → (turn_of g p.state image sram p.place).decline ≡ pick (leb (length sram) most_sram) (Err Decline.Idle) (Err Decline.Length)
+      pub declines : (sram : List ℕ)
+          → (turn_of g p.state image sram p.place).decline ≡ pick (leb (length sram) most_sram) (Err Decline.Idle) (Err Decline.Length)
       unfolding turn_decline_of common_decline_of lent_decline_up_to lengths_fit_of
       declines sram =
           let sound = stands.sound in
