@@ -2,20 +2,19 @@
 -- Assumes nothing.
 use mathlib.Core.Path.{◌≡◌, refl}
 use Rattle.std.specs.Prelude.{Ok, Err}
-use mathlib.Core.Bool.{Bool, true, not}
+use mathlib.Core.Bool.{true, not}
 use mathlib.Core.List.{[], ◌∷◌}
-use Prim.Native.Nat.{ℕ, ◌+◌}
+use Prim.Native.Nat.{ℕ}
 use lib.Dec.{eqb, ltb}
 use borrow.Author.Tests.{ltb-true}
 use Rattle.words.specs.Word.{has_of}
-use Rattle.words.proofs.PickLaws.{pick_both, and_both}
+use Rattle.words.proofs.PickLaws.{and_both}
 use Rattle.geometry.specs.declared.banks.Geometry.{Geometry}
 use Rattle.words.specs.declared.decline.Decline.{Decline}
 use Rattle.geometry.specs.Banks.{InRange}
 use Rattle.words.specs.Decline.{accepted_of}
 use Rattle.words.proofs.DeclineLaws.{held, neither}
 use Rattle.device.specs.declared.record.Device.{Device}
-use Rattle.device.specs.Answer.{Answer}
 use Rattle.device.specs.Registers.{WRERR, LVDERR}
 use Rattle.device.specs.Record.{running, op_of}
 use Rattle.nvmop.specs.Operation.{launched_begins_of, length_of}
@@ -24,15 +23,7 @@ use Rattle.common_declines.specs.CommonDecline.{common_decline_of}
 use Rattle.common_declines.proofs.PossibleLaws.{possible}
 use Rattle.common_declines.proofs.CommonDeclineLaws.{Ready, ready}
 use Rattle.flash.specs.Effect.{Runs}
-use Rattle.flash.specs.Step.{step_decline_of, advance_of}
-
--- a step that is not declined answers so
-pub advance_accepts : (g : Geometry) (d : Device) (aborts : Bool) → (advance_of g d aborts).decline ≡ Ok tt
-unfolding advance_of
-advance_accepts g d aborts = pick_both P aborts refl (pick_both P (eqb (d.step + 1) (length_of g (op_of d))) refl refl)
-  where
-    P : Answer → Type 0
-    P a = a.decline ≡ Ok tt
+use Rattle.flash.specs.Step.{step_decline_of}
 
 module _ (g : Geometry) (d : Device) where
   -- an operation that runs on a possible device

@@ -24,11 +24,13 @@ use Rattle.row_schedule.proofs.ServeLaws.{row-sound, queue-sound}
 module _ (c : Judged) where
   pub sound : RowSound c.shared.layout.geometry c.shared.store.now c.row.now.signs c.row.now.count
   sound =
-      row-sound c.shared.layout.geometry c.k c.row.now.signs c.row.now.count c.row.now.queue c.row.now.last c.shared.store.now c.shared.image.now c.shared.sram.now c.accepted
+      row-sound c.shared.layout.geometry c.k c.row.now.signs c.row.now.count c.row.now.queue c.row.now.last
+      c.shared.store.now c.shared.image.now c.shared.sram.now c.accepted
 
   queue_both : QueueSound c.row.now.queue c.row.now.count × (c.row.now.last < c.row.now.count)
   queue_both =
-      queue-sound c.shared.layout.geometry c.k c.row.now.signs c.row.now.count c.row.now.queue c.row.now.last c.shared.store.now c.shared.image.now c.shared.sram.now
+      queue-sound c.shared.layout.geometry c.k c.row.now.signs c.row.now.count c.row.now.queue c.row.now.last
+      c.shared.store.now c.shared.image.now c.shared.sram.now
       c.accepted
 
   pub waiting : QueueSound c.row.now.queue c.row.now.count
@@ -95,7 +97,8 @@ module _ (c : Judged) where
     by_search : from_queue_of (known_at c) ≡ false → (choice : Choice)
         → choice ≡ round_of c.row.now.count c.row.now.queue c.row.now.last (stands_at c (leb c.k count)) → choice ≡ choice_of (known_at c)
     by_search none choice e =
-        by_round c.shared.layout.geometry c.k c.row.now.signs c.row.now.count c.row.now.queue c.row.now.last c.shared.store.now c.shared.image.now c.shared.sram.now
+        by_round c.shared.layout.geometry c.k c.row.now.signs c.row.now.count c.row.now.queue c.row.now.last
+        c.shared.store.now c.shared.image.now c.shared.sram.now
         (leb c.k count) full_is none choice e
 
     -- with K or more set
@@ -103,7 +106,8 @@ module _ (c : Judged) where
         → choice ≡ round_of c.row.now.count c.row.now.queue c.row.now.last (stands_at c (leb c.k count)) → choice ≡ choice_of (known_at c)
     full_search many choice e =
         by_search
-        (full_none c.shared.layout.geometry c.k c.row.now.signs c.row.now.count c.row.now.queue c.row.now.last c.shared.store.now c.shared.image.now c.shared.sram.now
+        (full_none c.shared.layout.geometry c.k c.row.now.signs c.row.now.count c.row.now.queue c.row.now.last
+        c.shared.store.now c.shared.image.now c.shared.sram.now
         (full_is ∙ le-leb c.k count many)) choice e
 
     -- with fewer, where none of those that wait can be served
@@ -112,7 +116,8 @@ module _ (c : Judged) where
     none_search none choice e =
         let past = below_none _ _ none in
         by_search
-        (ready_none c.shared.layout.geometry c.k c.row.now.signs c.row.now.count c.row.now.queue c.row.now.last c.shared.store.now c.shared.image.now c.shared.sram.now
+        (ready_none c.shared.layout.geometry c.k c.row.now.signs c.row.now.count c.row.now.queue c.row.now.last
+        c.shared.store.now c.shared.image.now c.shared.sram.now
         _ refl (omega (arith, past, entries_length c.row.now.queue.numbers c.row.now.queue.count))) choice e
 
     -- with fewer, the first of those that can
@@ -122,8 +127,10 @@ module _ (c : Judged) where
         let b = below_some _ _ p some in
         let inside : p < c.row.now.queue.count = omega (arith, b.0, b.1, entries_length c.row.now.queue.numbers c.row.now.queue.count) in
         ap (λ (q : Queue). record { served = get_or c.row.now.queue.numbers p 0; queue = q }) e
-        ∙ by_queue c.shared.layout.geometry c.k c.row.now.signs c.row.now.count c.row.now.queue c.row.now.last c.shared.store.now c.shared.image.now c.shared.sram.now
-        (ready_some c.shared.layout.geometry c.k c.row.now.signs c.row.now.count c.row.now.queue c.row.now.last c.shared.store.now c.shared.image.now c.shared.sram.now
+        ∙ by_queue c.shared.layout.geometry c.k c.row.now.signs c.row.now.count c.row.now.queue c.row.now.last
+        c.shared.store.now c.shared.image.now c.shared.sram.now
+        (ready_some c.shared.layout.geometry c.k c.row.now.signs c.row.now.count c.row.now.queue c.row.now.last
+        c.shared.store.now c.shared.image.now c.shared.sram.now
         (full_is ∙ lt-leb c.k count few) p b.0 inside) p b.0 inside
 
   -- and it is a record of the row

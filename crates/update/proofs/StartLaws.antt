@@ -15,7 +15,7 @@ use Rattle.words.specs.Quad.{word_at}
 use Rattle.words.proofs.PickLaws.{and_both}
 use Rattle.geometry.specs.declared.banks.Geometry.{Geometry}
 use Rattle.words.specs.declared.decline.Decline.{Decline}
-use Rattle.geometry.specs.Banks.{in_range_of, InRange, program_bytes_of, bank_words_of}
+use Rattle.geometry.specs.Banks.{in_range_of, program_bytes_of, bank_words_of}
 use Rattle.words.specs.Decline.{accepted_of}
 use Rattle.sequence.specs.Sequence.{sequence_index_of, tseq_of, valid_of}
 use Rattle.words.proofs.DeclineLaws.{held, passed, neither}
@@ -210,13 +210,6 @@ module _ (u : Fixed) (f : Device) (new : List ℕ) where
 
       next : next_exists_of g (placed b f old new) ≡ true
       next = rw (lower_is, more)
-
--- the geometry of an accepted start is in range
-pub start_range : (g : Geometry) (s : State) (words : ℕ) → accepted_of (start_decline_of g s words) ≡ true → InRange g
-unfolding start_decline_of
-start_range g s words h =
-    (ready g s.device (length s.one ∷ length s.two ∷ words ∷ []) 0
-    (neither (common_decline_of g s.device (length s.one ∷ length s.two ∷ words ∷ []) 0) _ h).0).lent.range
 
 -- with the whole new bank it is declined 10: a reset would choose that bank
 module _ (u : Fixed) (f : Device) (new : List ℕ) where

@@ -14,10 +14,12 @@ room g words page size h w = rw w (page_lies g words page h).1
 
 pub offset_bounds-bank-start : goal.offset_bounds-bank-start
 offset_bounds-bank-start c =
-    let r = room _ _ _ _ (ap accepted_of (sym c.page_decline.ensures.verdict ∙ ap verdict_from c.in-Ok.is)) (c.page_words-words.ensures ∙ ap page_words_of c.in-Ok.ensures.layout) in
+    let accepted = ap accepted_of (sym c.page_decline.ensures.verdict ∙ ap verdict_from c.in-Ok.is) in
+    let r = room _ _ _ _ accepted (c.page_words-words.ensures ∙ ap page_words_of c.in-Ok.ensures.layout) in
     search (rules, r)
 
 pub slice_bounds-result-end-2 : goal.slice_bounds-result-end-2
 slice_bounds-result-end-2 c =
-    let r = room _ _ _ _ (ap accepted_of (sym c.page_decline.ensures.verdict ∙ ap verdict_from c.in-Ok.is)) (c.page_words-words.ensures ∙ ap page_words_of c.in-Ok.ensures.layout) in
+    let accepted = ap accepted_of (sym c.page_decline.ensures.verdict ∙ ap verdict_from c.in-Ok.is) in
+    let r = room _ _ _ _ accepted (c.page_words-words.ensures ∙ ap page_words_of c.in-Ok.ensures.layout) in
     search (rules, r)

@@ -31,7 +31,8 @@ pub overflow_sub-length : goal.overflow_sub-length
 overflow_sub-length c =
     let found = c.in_ok-layout in
     let possible = (read_ready _ _ _ _ _ _ (sym (ap accepted_of found.ensures.verdict))).0.possible in
-    let run = runs found.layout.geometry c.args.d found.layout.in_range (rw found.ensures.found.0 possible) (busy _ _ _ _ c.is_free.ensures c.if-is_free.false) in
+    let on = busy _ _ _ _ c.is_free.ensures c.if-is_free.false in
+    let run = runs found.layout.geometry c.args.d found.layout.in_range (rw found.ensures.found.0 possible) on in
     rw (c.length.ensures, c.op.ensures) (omega (arith, run.below))
 
 pub steps-waited-requires : goal.steps-waited-requires

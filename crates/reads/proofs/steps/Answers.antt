@@ -45,7 +45,8 @@ loop-preserved c =
     let going = sym c.has.ensures ∙ c.if-not-has.false in
     let left : c.args.count - (l.counter + 1) ≡ c.args.count - l.counter - 1 = omega arith in
     record {
-      same = rw left (more c.args.layout.geometry c.args.sram.now s a c.step_accepted-a.ensures (c.args.count - l.counter) _ (omega arith) going l.invariant.same);
+      same =
+          rw left (more c.args.layout.geometry c.args.sram.now s a c.step_accepted-a.ensures (c.args.count - l.counter) _ (omega arith) going l.invariant.same);
       going = again c.args.layout.geometry c.args.sram.now s a c.step_accepted-a.ensures l.invariant.going going (omega arith) (omega arith);
     }
 

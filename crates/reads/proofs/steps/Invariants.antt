@@ -8,6 +8,7 @@ use Rattle.reads.proofs.steps.Given as goal
 
 abbrev pub invariant-loop : goal.invariant-loop
 invariant-loop l = record {
-  same : steps_of l.layout.geometry l.sram (l.count - l.counter) (state l.device l.one l.two) ≡ steps_of l.layout.geometry l.sram l.count (state l.fn.d l.fn.one l.fn.two);
+  same : steps_of l.layout.geometry l.sram (l.count - l.counter) (state l.device l.one l.two)
+      ≡ steps_of l.layout.geometry l.sram l.count (state l.fn.d l.fn.one l.fn.two);
   going : accepted_of (step_decline_of l.layout.geometry l.device (length l.one) (length l.two) (length l.sram)) ≡ true;
 }

@@ -1,5 +1,5 @@
 -- The first test that fails decides.
-use Rattle.std.proofs.Common.{sym, ap, arith}
+use Rattle.std.proofs.Common.{ap, arith}
 use borrow.Author.Tests.{le-leb, lt-leb}
 use Rattle.geometry.specs.Banks.{pages_of}
 use Rattle.sheet.specs.Sheet.{sheet_bytes_of, page_sheet_decline_of}

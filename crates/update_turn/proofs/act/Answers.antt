@@ -58,4 +58,5 @@ returns-else-not-has-clause-fits c =
     let on : running a.d ≡ true = sym c.has.ensures ∙ c.if-not-has.false in
     subst (λ (w : Write). Fits a.one.now a.two.now w)
     (sym (ap (λ (r : TurnChange). write_from r.write) c.going-in-Step.ensures ∙ ap (λ (e : StepEffect). e.write) c.step_effect-e.ensures))
-    (effect_fits a.layout.geometry (state a.d a.one.now a.two.now) a.sram.now (runs a.layout.geometry a.d a.layout.in_range c.requires.d_value on) c.requires.one_len)
+    (effect_fits a.layout.geometry (state a.d a.one.now a.two.now) a.sram.now
+    (runs a.layout.geometry a.d a.layout.in_range c.requires.d_value on) c.requires.one_len)

@@ -8,11 +8,13 @@ use Rattle.update_actions.proofs.actions.action_at.Goals as goal
 -- the code's first place of the programming is the definition's
 pub page_action-requires : goal.page_action-requires
 page_action-requires c =
-    let first : 12 + c.pages.result * (8 + c.page_quads-block.result) ≡ programming_from c.args.layout.geometry = cc (c.pages.ensures, c.page_quads-block.ensures) in
+    let g = c.args.layout.geometry in
+    let first : 12 + c.pages.result * (8 + c.page_quads-block.result) ≡ programming_from g = cc (c.pages.ensures, c.page_quads-block.ensures) in
     let page = page_at_lem c.args.layout.geometry c.args.place c.if-place-lt12.false (rw first at c.if-place-programming.true) in
     rw (c.erased_page.ensures, c.page_quads-block.ensures) (page_below c.args.layout.geometry c.args.layout.in_range _ page)
 
 pub quad_action-requires-clause-i_bound : goal.quad_action-requires-clause-i_bound
 quad_action-requires-clause-i_bound c =
-    let first : 12 + c.pages.result * (8 + c.page_quads-block.result) ≡ programming_from c.args.layout.geometry = cc (c.pages.ensures, c.page_quads-block.ensures) in
+    let g = c.args.layout.geometry in
+    let first : 12 + c.pages.result * (8 + c.page_quads-block.result) ≡ programming_from g = cc (c.pages.ensures, c.page_quads-block.ensures) in
     rw first (rest_below c.args.layout.geometry c.args.place (rw first at c.if-place-programming.false) c.requires.place_bound)
