@@ -1,5 +1,5 @@
 // The script of an update, written into a lent buffer.
-// What asks for InRange or for room here is no call of the script: its callers ask first.
+// What takes a Layout or asks for room here is no call of the script: its callers ask first.
 #![tactic(auto)]
 
 ghost use Rattle.std.specs.Prelude.{◌≡◌, ◌*◌, ◌≤◌, length};
