@@ -29,7 +29,7 @@ in_range_up_to most g =
 abbrev pub in_range_of : Geometry → Bool
 in_range_of g = in_range_up_to most_program_pages g
 
--- the same as facts (`in-range` of proofs/SizeLaws): what the functions that need such a geometry ask for
+-- the same as facts (`in-range` of proofs/SizeLaws): what a `Layout` keeps for the functions that need such a geometry
 pub record InRange (g : Geometry) : Type 0 where
   pub q_low : 1 ≤ g.q
   pub q_high : g.q ≤ 128

@@ -1,7 +1,6 @@
 // Declines 1 and 2: the geometry, and the lengths of what is lent with it.
 ghost use Rattle.std.specs.Prelude.{◌≡◌, IfOk};
 ghost use Rattle.words.specs.Decline.{verdict_from};
-ghost use Rattle.geometry.specs.Banks.{InRange};
 ghost use Rattle.geometry.specs.Lent.{lengths_of, lengths_fit_of, lent_decline_of};
 
 use crate::banks::Geometry;

@@ -2,7 +2,7 @@
 // What asks for lengths here is no call of the script: its callers judge them first.
 #![tactic(auto)]
 
-ghost use Rattle.std.specs.Prelude.{◌≡◌, ◌++◌, ◌*◌, ◌+◌, ◌%◌, ◌≤◌, ◌<◌, length, get_or, take, replicate};
+ghost use Rattle.std.specs.Prelude.{◌≡◌, ◌++◌, ◌*◌, ◌+◌, ◌%◌, ◌≤◌, ◌<◌, length, take, replicate};
 ghost use Rattle.script_format.specs.Records.{record_of, records_of};
 ghost use Rattle.device.specs.State.{lent, state};
 ghost use Rattle.script_smallest.specs.Smallest.{gives_of, shows_of, without_of, smallest_script_of, unplayed_decline_of, with_zeros};

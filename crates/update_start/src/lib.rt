@@ -16,7 +16,7 @@ use geometry::layout::Layout;
 use geometry::lent::Lent;
 use protection::pwp;
 use resets::compared;
-use sequence::{cseq, is_valid, sequence_index, tseq};
+use sequence::{cseq, is_valid, tseq};
 use update::start::UpdateStart;
 use update_actions::actions::total;
 use update_actions::lower_word::lower_word;
