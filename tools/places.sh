@@ -19,4 +19,4 @@ in_sources 5c 'requires .*(Used out|Room (one|two)|scratch[12]|sign\.sequence)'
 in_sources 6a '\[u32; 26\]'
 in_sources 6b '(used|held|at|middle|from|end): usize,?'
 printf '8a\t%s\tanswers and invariants of functions, files\n' "$(git ls-tree -r --name-only "$commit" -- crates | grep -cE '/proofs/.*/(Answers|Invariants)\.antt$')"
-printf '8b\t%s\tthe same, lines\n' "$(git ls-tree -r --name-only "$commit" -- crates | grep -E '/proofs/.*/(Answers|Invariants)\.antt$' | sed "s/^/$commit:/" | git cat-file --batch='%(objectsize)' | wc -l)"
+printf '8b\t%s\tthe same, lines\n' "$(git ls-tree -r --name-only "$commit" -- crates | grep -E '/proofs/.*/(Answers|Invariants)\.antt$' | sed "s/^/$commit:/" | xargs git show | wc -l)"

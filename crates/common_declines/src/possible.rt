@@ -1,5 +1,5 @@
 // Decline 3: whether a device record is possible.
-// What asks for InRange here is no call of the device: its callers ask in_range first.
+// What takes a Layout here is no call of the device: its callers judge decline 1 first.
 ghost use Rattle.std.specs.Prelude.{◌≡◌};
 ghost use Rattle.words.specs.Word.{pick};
 ghost use Rattle.device.specs.Record.{running};

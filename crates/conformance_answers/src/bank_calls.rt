@@ -5,7 +5,6 @@ use conformance_io::banks::Banks;
 use conformance_lists::line::Line;
 use conformance_lists::no_outcome::NoOutcome;
 use device::registers::Nvmcon;
-use geometry::banks::page_words;
 use words::word::has;
 
 // The number of the bank that a part is. Where both are equal, BFSWAP names it.
@@ -39,9 +38,9 @@ pub fn page_outcome(line: &mut Line) -> Result<String, NoOutcome> {
     let bank = list(line)?;
     let number = line.number()?;
     line.end()?;
-    page_decline(g, &bank, number)?;
+    let layout = page_decline(g, &bank, number)?;
     let part = page(g, &bank, number);
-    let start = number as usize * page_words(g) as usize;
+    let start = number as usize * layout.page_words() as usize;
     let rest = bank.get(start..).ok_or(NoOutcome::NoCase)?;
     if !rest.starts_with(part) {
         return Err(NoOutcome::NoCase);

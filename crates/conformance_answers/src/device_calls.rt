@@ -8,7 +8,8 @@ use conformance_cases::sign;
 use conformance_io::records::DeviceNumbers;
 use conformance_lists::line::Line;
 use conformance_lists::no_outcome::NoOutcome;
-use geometry::banks::{Geometry, in_range};
+use geometry::banks::Geometry;
+use geometry::layout::Layout;
 use protection::is_protected;
 use register_access::{register_read, store};
 use sequence::comparison::compare;
@@ -28,10 +29,8 @@ pub fn possible_outcome(line: &mut Line) -> Result<String, NoOutcome>
 {
     let (g, d) = sign(line)?;
     line.end()?;
-    if !in_range(g) {
-        return Err(NoOutcome::NoCase);
-    }
-    let is_so = u8::from(is_possible(g, d));
+    let layout = Layout::of(g).ok_or(NoOutcome::NoCase)?;
+    let is_so = u8::from(is_possible(layout, d));
     Ok(format!(in line.alloc(); "{is_so}")?)
 }
 
@@ -53,10 +52,11 @@ pub fn protected_outcome(line: &mut Line) -> Result<String, NoOutcome>
     let [kind, side, page] = line.numbers::<3>()?;
     line.end()?;
     let pages = pages_of(g, kind).ok_or(NoOutcome::NoCase)?;
-    if !in_range(g) || 1 < side || pages <= page {
+    let layout = Layout::of(g).ok_or(NoOutcome::NoCase)?;
+    if 1 < side || pages <= page {
         return Err(NoOutcome::NoCase);
     }
-    let is_so = u8::from(is_protected(g, d, kind == 1, side == 1, page));
+    let is_so = u8::from(is_protected(layout, d, kind == 1, side == 1, page));
     Ok(format!(in line.alloc(); "{is_so}")?)
 }
 

@@ -3,7 +3,8 @@ use crate::cuts::{Cuts, cuts_and_turn};
 use crate::signs::Sign;
 use crate::state::State;
 use device::registers::Nvmcon;
-use geometry::banks::{Geometry, in_range};
+use geometry::banks::Geometry;
+use geometry::layout::Layout;
 use map::window_start;
 use std::alloc::{AllocError, Global};
 use words::word::has;
@@ -16,10 +17,10 @@ const MOST_STEPS: u32 = 192;
 
 // The address of a place's read: a word of the upper program region, where the new bank stands.
 fn address_of(g: Geometry, place: u32) -> u32 {
-    if !in_range(g) {
-        return 0;
+    match Layout::of(g) {
+        Some(layout) => window_start(layout, true, true) + 4 * (place % FEWEST_WORDS),
+        None => 0,
     }
-    window_start(g, true, true) + 4 * (place % FEWEST_WORDS)
 }
 
 // Runs the update from power-on to a place.

@@ -19,7 +19,7 @@ pub enum Lent {
     BanksAndImage(usize, usize, usize),
 }
 
-// Whether decline 2 does not apply. No call of the device: lent_decline asks in_range first.
+// Whether decline 2 does not apply. No call of the device: lent_decline judges decline 1 first.
 #[tactic(auto, unfolding(crate::specs::Lent::lengths_fit_of))]
 fn lengths_fit(layout: Layout, lent: Lent, sram: usize) -> bool
     ensures { result ≡ lengths_fit_of layout.geometry (lengths_of lent) sram }

@@ -1,5 +1,5 @@
 // A store to NVMCON.
-// What asks for InRange here is no call of the device: its callers ask in_range first.
+// What takes a Layout here is no call of the device: its callers judge decline 1 first.
 ghost use Rattle.std.specs.Prelude.{◌≡◌};
 ghost use Rattle.launch.specs.ConStore.{launches_of, con_store_of};
 

@@ -1,5 +1,5 @@
 // The four windows, and where an address stands in them.
-// What asks for InRange here is no call of the device: its callers ask in_range first.
+// What takes a Layout here is no call of the device: its callers judge decline 1 first.
 #![tactic(auto)]
 
 ghost use Rattle.std.specs.Prelude.{◌≡◌};

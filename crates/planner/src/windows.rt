@@ -62,7 +62,7 @@ impl Window {
 
 // Whether the present minute, the duration and the count of windows are in range, where so many numbers are lent for the windows.
 #[tactic(auto, unfolding(crate::specs::Windows::numbers_in_range_of))]
-fn numbers_in_range(minute: u32, duration: u32, numbers: usize) -> bool
+pub fn numbers_in_range(minute: u32, duration: u32, numbers: usize) -> bool
     ensures { result ≡ numbers_in_range_of minute duration numbers }
 {
     minute < WEEK

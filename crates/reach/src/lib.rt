@@ -1,5 +1,5 @@
 // What two images differ in, and the place of the action that differs.
-// What asks for InRange or for lengths here is no call: reach judges its declines first.
+// What takes a Layout or asks for lengths here is no call: reach judges its declines first.
 #![tactic(auto)]
 
 ghost use Rattle.std.specs.Prelude.{◌≡◌, ◌≤◌, ◌<◌, length};

@@ -1,5 +1,5 @@
 // Decline 19: whether a row, its queue and its store can be served.
-// What asks for InRange or for room here is no call of the row: row_decline judges these first.
+// What takes a Layout or asks for room here is no call of the row: row_decline judges these first.
 #![tactic(auto)]
 
 ghost use Rattle.std.specs.Prelude.{◌≡◌, IfOk, ◌≤◌, ◌<◌, eqb, length, get_or};

@@ -1,5 +1,5 @@
 // The turn of one sign of a row, over its two parts of the store.
-// What asks for InRange and Lies here is no call of the row: its callers judge 1, 2 and 19 first.
+// What takes a Layout or asks for Lies here is no call of the row: its callers judge 1, 2 and 19 first.
 #![tactic(auto)]
 
 ghost use Rattle.std.specs.Prelude.{◌≡◌, ◌⊎◌, ◌+◌, ◌≤◌, length};

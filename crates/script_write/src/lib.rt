@@ -1,5 +1,5 @@
 // The script of an update, written into a lent buffer.
-// What asks for InRange or for room here is no call of the script: its callers ask first.
+// What takes a Layout or asks for room here is no call of the script: its callers ask first.
 #![tactic(auto)]
 
 ghost use Rattle.std.specs.Prelude.{◌≡◌, ◌*◌, ◌≤◌, length};
@@ -89,6 +89,7 @@ pub fn write_script(
         ≡ write_script_of g (lent d one.entry two.entry) image.now out.old }
 {
     write_script_decline(g, d, one, two, image, out.len())?;
-    put_actions(out, g, image, lower_word(g, d, one, two));
-    Ok(total(g))
+    let layout = Layout { geometry: g };
+    put_actions(out, layout, image, lower_word(layout, d, one, two));
+    Ok(total(layout))
 }

@@ -1,5 +1,5 @@
 // The sequence word of a bank: TSEQ, its low half, and CSEQ, its high half.
-// What asks for InRange here is no call of the device: its callers ask in_range first.
+// What takes a Layout here is no call of the device: its callers judge decline 1 first.
 #![tactic(auto)]
 
 ghost use Rattle.std.specs.Prelude.{◌≡◌, ◌<◌};

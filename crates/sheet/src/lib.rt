@@ -1,5 +1,5 @@
 // The page sheet in a lent buffer.
-// What asks for InRange or for room here is no call of the device: its callers ask first.
+// What takes a Layout or asks for room here is no call of the device: its callers ask first.
 #![tactic(auto)]
 
 ghost use Rattle.std.specs.Prelude.{◌≡◌, IfOk, ◌+◌, ◌*◌, ◌≤◌, length};

@@ -1,5 +1,5 @@
 // The actions of an update, by place.
-// What asks for InRange, or for a place of its list, is no call of the updater: its callers judge their declines first.
+// What takes a Layout, or asks for a place of its list, is no call of the updater: its callers judge their declines first.
 ghost use Rattle.std.specs.Prelude.{◌≡◌, ◌+◌, ◌<◌, length, get_or};
 ghost use Rattle.geometry.specs.Banks.{pages_of, bank_words_of};
 ghost use Rattle.update.specs.declared.actions.Action.TheVariants.{Step};

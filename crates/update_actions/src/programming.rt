@@ -1,5 +1,5 @@
 // The quads of an update: where each stands, what it holds, and its actions.
-// What asks for InRange, or for a quad of the bank, is no call of the updater: its callers judge their declines first.
+// What takes a Layout, or asks for a quad of the bank, is no call of the updater: its callers judge their declines first.
 ghost use Rattle.std.specs.Prelude.{◌≡◌, ◌<◌, length};
 ghost use Rattle.geometry.specs.Banks.{bank_words_of};
 ghost use Rattle.update.specs.Actions.{upper_address_of, programmed_quad_of, new_quad_of, bank_quads_of, quad_action_of};

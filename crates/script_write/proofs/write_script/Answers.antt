@@ -24,3 +24,7 @@ written g s image buffer r e k w total out v o n =
 pub returns : goal.returns
 returns c =
     written _ _ _ _ _ c.write_script_decline.ensures c.in_ok-write_script_decline.was _ _ _ c.lower_word.ensures c.put_actions.ensures c.total.ensures
+
+pub invariant_of-layout : goal.invariant_of-layout
+invariant_of-layout c =
+    record { in_range = (went_holds c.write_script_decline.ensures c.in_ok-write_script_decline.was).sizes.range }
