@@ -1,16 +1,16 @@
 // What the next step of a running operation does: a step carries it out, and a reset tears it.
-// What asks for Runs, or for room in the banks, is no call of the device: its callers decide their decline first.
+// What asks for room in the banks is no call of the device: its callers decide their decline first.
 ghost use Rattle.std.specs.Prelude.{◌≡◌, ℕ, Bool, ◌+◌, ◌*◌, ◌^◌, ◌<◌, ◌≤◌, true, length};
 ghost use Rattle.std.specs.Option.{is_none, is_some, unwrap_or};
 ghost use Rattle.words.specs.Word.{pick};
 ghost use Rattle.words.specs.Quad.{quad_at, blank_quad};
-ghost use Rattle.geometry.specs.Banks.{bank_words_of};
 ghost use Rattle.device.specs.Record.{bfswap, pfswap};
 ghost use Rattle.device.specs.State.{lent};
 ghost use Rattle.map.specs.Windows.{window_bytes_of, located, in_second_of};
 ghost use Rattle.map.specs.Location.{stands_of};
-ghost use Rattle.flash.specs.Effect.{Runs, step_location_of, blocked_of, source_fits_of, source_word_of, effect, effect_from, effect_at_of, effect_of};
+ghost use Rattle.flash.specs.Effect.{step_location_of, blocked_of, source_fits_of, source_word_of, effect, effect_from, effect_at_of, effect_of};
 
+use crate::lent::{Banks, Running};
 use crate::write::Write;
 use device::numbers::{
     LOWER_ERASE, NO_OPERATION, PAGE_ERASE, QUAD_PROGRAM, ROW_PROGRAM, UPPER_ERASE,
@@ -29,30 +29,6 @@ use words::word::has;
 pub struct Effect {
     pub aborts: bool,
     pub write: Write,
-}
-
-// Where the quad of the next step stands.
-#[tactic(auto, using(crate::proofs::EffectLaws::steps_high), unfolding(crate::specs::Effect::step_at_of))]
-pub fn step_location(layout: Layout, d: Device) -> Location
-    requires { Runs layout.geometry d }
-    ensures { stands_of result ≡ step_location_of layout.geometry d }
-{
-    let op = op(d);
-    let step = d.step;
-    let region = 8 * layout.geometry.q * layout.geometry.p;
-    match op {
-        NO_OPERATION..=PAGE_ERASE => {
-            let target = target(layout, op, d.launched.nvmaddr).unwrap();
-            Location {
-                offset: target.offset + 16 * step,
-                ..target
-            }
-        }
-        LOWER_ERASE => in_region(false, step),
-        UPPER_ERASE => in_region(true, step),
-        _ if step < region => in_region(false, step),
-        _ => in_region(true, step - region),
-    }
 }
 
 // Where a quad of a program region stands.
@@ -132,33 +108,61 @@ fn intended(d: Device, sram: &[u32], old: [u32; 4]) -> Option<[u32; 4]>
     Some(quad_from(sram, source_word(d)))
 }
 
-// What the next step of the running operation does.
-#[tactic(auto, unfolding(crate::specs::Effect::effect_of))]
-pub fn next_effect(layout: Layout, d: Device, one: &[u32], two: &[u32], sram: &[u32]) -> Effect
-    requires runs { Runs layout.geometry d }
-    requires one_len { (length one.now ≡ bank_words_of layout.geometry) × (length two.now ≡ bank_words_of layout.geometry) }
-    ensures { effect_from result ≡ effect_of layout.geometry (lent d one.entry two.entry) sram.now }
-{
-    let l = step_location(layout, d);
-    let second = second_at(d, l);
-    let quad = l.quad_index(layout);
-    if is_blocked(layout, d, l) {
-        return Effect {
-            aborts: false,
+impl Running<'_> {
+    // Where the quad of the next step stands.
+    #[tactic(auto, using(crate::proofs::EffectLaws::steps_high), unfolding(crate::specs::Effect::step_at_of))]
+    pub fn step_location(self) -> Location
+        ensures { stands_of result ≡ step_location_of self.entry.banks.layout.geometry self.entry.device }
+    {
+        let layout = self.banks.layout;
+        let d = self.device;
+        let op = op(d);
+        let step = d.step;
+        let region = 8 * layout.geometry.q * layout.geometry.p;
+        match op {
+            NO_OPERATION..=PAGE_ERASE => {
+                let target = target(layout, op, d.launched.nvmaddr).unwrap();
+                Location {
+                    offset: target.offset + 16 * step,
+                    ..target
+                }
+            }
+            LOWER_ERASE => in_region(false, step),
+            UPPER_ERASE => in_region(true, step),
+            _ if step < region => in_region(false, step),
+            _ => in_region(true, step - region),
+        }
+    }
+
+    // What the next step does.
+    #[tactic(auto, unfolding(crate::specs::Effect::effect_of))]
+    pub fn next_effect(self, sram: &[u32]) -> Effect
+        ensures { effect_from result
+            ≡ effect_of self.entry.banks.layout.geometry (lent self.entry.device self.entry.banks.one self.entry.banks.two) sram.now }
+    {
+        let Banks { layout, one, two } = self.banks;
+        let d = self.device;
+        let l = self.step_location();
+        let second = second_at(d, l);
+        let quad = l.quad_index(layout);
+        if is_blocked(layout, d, l) {
+            return Effect {
+                aborts: false,
+                write: Write {
+                    second,
+                    quad,
+                    words: None,
+                },
+            };
+        }
+        let words = intended(d, sram, old_quad(one, two, second, quad));
+        Effect {
+            aborts: words.is_none(),
             write: Write {
                 second,
                 quad,
-                words: None,
+                words,
             },
-        };
-    }
-    let words = intended(d, sram, old_quad(one, two, second, quad));
-    Effect {
-        aborts: words.is_none(),
-        write: Write {
-            second,
-            quad,
-            words,
-        },
+        }
     }
 }

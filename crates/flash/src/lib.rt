@@ -2,5 +2,6 @@
 #![tactic(auto)]
 
 pub mod effect;
+pub mod lent;
 pub mod step;
 pub mod write;

@@ -1,14 +1,12 @@
 // One step of the running operation.
-// What asks for Runs, or that no decline applies, is no call of the device: its callers decide their decline first.
+// What asks that no decline applies is no call of the device: its callers decide their decline first.
 ghost use Rattle.std.specs.Prelude.{◌≡◌, IfOk, true, length};
 ghost use Rattle.words.specs.Decline.{verdict_from, accepted_of};
-ghost use Rattle.geometry.specs.Banks.{bank_words_of};
 ghost use Rattle.device.specs.Answer.{answer_from};
 ghost use Rattle.device.specs.State.{state, lent, leaves};
-ghost use Rattle.flash.specs.Effect.{Runs};
 ghost use Rattle.flash.specs.Step.{step_decline_of, advanced, ended_of, advance_of, step_effect_from, step_effect_of, step_of};
 
-use crate::effect::next_effect;
+use crate::lent::{Banks, Running};
 use crate::write::{Write, apply};
 use common_declines::common_decline::common_decline;
 use device::builders::{no_operands, with_con, with_launched};
@@ -54,42 +52,43 @@ fn ended(d: Device, con: u32) -> Device
     with_launched(with_con(d, con, d.keystep, 0), no_operands())
 }
 
-// What a step leaves that aborts or not.
-#[tactic(auto, using(crate::proofs::EffectLaws::steps_high), unfolding(crate::specs::Step::advance_of))]
-fn advance(layout: Layout, d: Device, aborts: bool) -> Outcome
-    requires { Runs layout.geometry d }
-    ensures { advanced result.device result.event ≡ advance_of layout.geometry d aborts }
-{
-    let con = d.nvmcon.0;
-    let next = d.step + 1;
-    if aborts {
-        return Outcome {
-            device: ended(d, clear(con, Nvmcon::WR)),
-            event: true,
-        };
+impl Running<'_> {
+    // What a step leaves that aborts or not.
+    #[tactic(auto, using(crate::proofs::EffectLaws::steps_high), unfolding(crate::specs::Step::advance_of))]
+    fn advance(self, aborts: bool) -> Outcome
+        ensures { advanced result.device result.event ≡ advance_of self.entry.banks.layout.geometry self.entry.device aborts }
+    {
+        let d = self.device;
+        let con = d.nvmcon.0;
+        let next = d.step + 1;
+        if aborts {
+            return Outcome {
+                device: ended(d, clear(con, Nvmcon::WR)),
+                event: true,
+            };
+        }
+        if next == length(self.banks.layout, op(d)) {
+            return Outcome {
+                device: ended(d, clear(con, Nvmcon::WR + Nvmcon::WRERR)),
+                event: true,
+            };
+        }
+        Outcome {
+            device: with_con(d, con, d.keystep, next),
+            event: false,
+        }
     }
-    if next == length(layout, op(d)) {
-        return Outcome {
-            device: ended(d, clear(con, Nvmcon::WR + Nvmcon::WRERR)),
-            event: true,
-        };
-    }
-    Outcome {
-        device: with_con(d, con, d.keystep, next),
-        event: false,
-    }
-}
 
-// A step that is not declined: one quad, ascending.
-pub fn step_effect(layout: Layout, d: Device, one: &[u32], two: &[u32], sram: &[u32]) -> StepEffect
-    requires runs { Runs layout.geometry d }
-    requires one_len { (length one.now ≡ bank_words_of layout.geometry) × (length two.now ≡ bank_words_of layout.geometry) }
-    ensures { step_effect_from result ≡ step_effect_of layout.geometry (lent d one.entry two.entry) sram.now }
-{
-    let e = next_effect(layout, d, one, two, sram);
-    StepEffect {
-        outcome: advance(layout, d, e.aborts),
-        write: e.write,
+    // A step that is not declined: one quad, ascending.
+    pub fn step_effect(self, sram: &[u32]) -> StepEffect
+        ensures { step_effect_from result
+            ≡ step_effect_of self.entry.banks.layout.geometry (lent self.entry.device self.entry.banks.one self.entry.banks.two) sram.now }
+    {
+        let e = self.next_effect(sram);
+        StepEffect {
+            outcome: self.advance(e.aborts),
+            write: e.write,
+        }
     }
 }
 
@@ -105,7 +104,8 @@ pub fn step_accepted(
     requires { accepted_of (step_decline_of layout.geometry d (length one.old) (length two.old) (length sram.now)) ≡ true }
     ensures { leaves (advanced result.device result.event) one.new two.new ≡ step_of layout.geometry (state d one.old two.old) sram.now }
 {
-    let e = step_effect(layout, d, one, two, sram);
+    let banks = Banks { layout, one, two };
+    let e = Running { banks, device: d }.step_effect(sram);
     apply(one, two, e.write);
     e.outcome
 }

@@ -4,7 +4,6 @@
 ghost use Rattle.std.specs.Prelude.{◌≡◌, ◌<◌, true, length, IfOk};
 ghost use Rattle.words.specs.Quad.{word_at};
 ghost use Rattle.words.specs.Decline.{verdict_from, accepted_of};
-ghost use Rattle.geometry.specs.Banks.{bank_words_of};
 ghost use Rattle.map.specs.Windows.{window_bytes_of, locate_of, word_index_of};
 ghost use Rattle.map.specs.Location.{stands_of};
 ghost use Rattle.device.specs.State.{state, lent, bank_of};
@@ -17,7 +16,8 @@ use device::numbers::BOTH_ERASE;
 use device::outcome::Outcome;
 use device::record::Device;
 use device::registers::Nvmcon;
-use flash::effect::{second_at, step_location};
+use flash::effect::second_at;
+use flash::lent::{Banks, Running};
 use flash::step::step_accepted;
 use geometry::banks::Geometry;
 use geometry::layout::Layout;
@@ -37,9 +37,9 @@ pub struct FlashWord {
 
 // Whether no running operation targets the bank.
 #[tactic(auto, unfolding(crate::specs::Read::free_of))]
-fn is_free(layout: Layout, d: Device, second: bool) -> bool
-    requires { possible_of layout.geometry d ≡ true }
-    ensures { result ≡ free_of layout.geometry d second }
+fn is_free(banks: Banks, d: Device, second: bool) -> bool
+    requires { possible_of banks.layout.geometry d ≡ true }
+    ensures { result ≡ free_of banks.entry.layout.geometry d second }
 {
     if !has(d.nvmcon.0, Nvmcon::WR) {
         return true;
@@ -47,7 +47,7 @@ fn is_free(layout: Layout, d: Device, second: bool) -> bool
     if op(d) == BOTH_ERASE {
         return false;
     }
-    second_at(d, step_location(layout, d)) != second
+    second_at(d, Running { banks, device: d }.step_location()) != second
 }
 
 // Where the word of a read stands that is not declined.
@@ -99,13 +99,17 @@ fn steps(
 }
 
 // The word at a place of the four windows.
-fn word_read(layout: Layout, d: Device, one: &[u32], two: &[u32], l: Location) -> u32
-    requires one_len { (length one.now ≡ bank_words_of layout.geometry) × (length two.now ≡ bank_words_of layout.geometry) }
-    requires room { l.offset < window_bytes_of layout.geometry l.program }
-    ensures { result ≡ word_at (bank_of (lent d one.entry two.entry) (second_at_of d (stands_of l))) (word_index_of layout.geometry (stands_of l)) }
+fn word_read(banks: Banks, d: Device, l: Location) -> u32
+    requires { l.offset < window_bytes_of banks.layout.geometry l.program }
+    ensures { result ≡ word_at (bank_of (lent d banks.entry.one banks.entry.two) (second_at_of d (stands_of l)))
+        (word_index_of banks.entry.layout.geometry (stands_of l)) }
 {
-    let bank = if second_at(d, l) { two } else { one };
-    bank[l.word_index(layout) as usize]
+    let bank = if second_at(d, l) {
+        banks.two
+    } else {
+        banks.one
+    };
+    bank[l.word_index(banks.layout) as usize]
 }
 
 // A flash read: of a bank that the running operation works on it first carries out the steps that remain.
@@ -121,7 +125,8 @@ pub fn flash_read(
     ensures { reading_from d result one.new two.new ≡ flash_read_of g (state d one.old two.old) sram.now address }
 {
     let (layout, l) = read_location(g, d, one.len(), two.len(), sram.len(), address)?;
-    let waited = if is_free(layout, d, second_at(d, l)) {
+    let banks = Banks { layout, one, two };
+    let waited = if is_free(banks, d, second_at(d, l)) {
         Outcome {
             device: d,
             event: false,
@@ -129,8 +134,9 @@ pub fn flash_read(
     } else {
         steps(layout, d, one, two, sram, length(layout, op(d)) - d.step)
     };
+    let after = Banks { layout, one, two };
     Ok(FlashWord {
-        word: word_read(layout, waited.device, one, two, l),
+        word: word_read(after, waited.device, l),
         event: waited.event,
         device: waited.device,
     })

@@ -17,7 +17,8 @@ use common_declines::common_decline::common_decline;
 use device::builders::{no_operands, power_on, with_con, with_launched};
 use device::record::Device;
 use device::registers::{Nvmbwp, Nvmcon, Nvmcon2, Nvmpwp, reset_value};
-use flash::effect::{next_effect, old_quad};
+use flash::effect::old_quad;
+use flash::lent::{Banks, Running};
 use flash::write::{Write, apply};
 use geometry::banks::Geometry;
 use geometry::layout::Layout;
@@ -61,7 +62,9 @@ fn tear(layout: Layout, d: Device, one: &mut [u32], two: &mut [u32], sram: &[u32
     if !has(d.nvmcon.0, Nvmcon::WR) {
         return;
     }
-    let write = next_effect(layout, d, one, two, sram).write;
+    let banks = Banks { layout, one, two };
+    let running = Running { banks, device: d };
+    let write = running.next_effect(sram).write;
     if let Some(words) = write.words {
         let old = old_quad(one, two, write.second, write.quad);
         let torn = Write {
@@ -72,13 +75,12 @@ fn tear(layout: Layout, d: Device, one: &mut [u32], two: &mut [u32], sram: &[u32
     }
 }
 
-// The comparison of the two banks. No call of the device: its callers judge the lengths first.
-pub fn compared(layout: Layout, one: &[u32], two: &[u32]) -> Comparison
-    requires { (length one.now ≡ bank_words_of layout.geometry) × (length two.now ≡ bank_words_of layout.geometry) }
-    ensures { comparison_from result ≡ comparison_of layout.geometry one.now two.now }
+// The comparison of the two banks.
+pub fn compared(banks: Banks) -> Comparison
+    ensures { comparison_from result ≡ comparison_of banks.entry.layout.geometry banks.entry.one.now banks.entry.two.now }
 {
-    let i = sequence_index(layout) as usize;
-    compare(one[i], two[i])
+    let i = sequence_index(banks.layout) as usize;
+    compare(banks.one[i], banks.two[i])
 }
 
 // NVMCON after a reset, but for BFSWAP.
@@ -132,7 +134,8 @@ pub fn reset(
 {
     let (layout, kind) = reset_kind(g, d, one.len(), two.len(), sram.len(), kind)?;
     tear(layout, d, one, two, sram, mask);
-    let c = compared(layout, one, two);
+    let banks = Banks { layout, one, two };
+    let c = compared(banks);
     Ok(AfterReset {
         device: reset_device(d, kind, c.second),
         reason: c.reason,

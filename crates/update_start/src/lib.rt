@@ -1,9 +1,8 @@
 // The update start.
 #![tactic(auto)]
 
-ghost use Rattle.std.specs.Prelude.{◌≡◌, IfOk, length};
+ghost use Rattle.std.specs.Prelude.{◌≡◌, IfOk};
 ghost use Rattle.words.specs.Decline.{verdict_from};
-ghost use Rattle.geometry.specs.Banks.{bank_words_of};
 ghost use Rattle.device.specs.State.{lent};
 ghost use Rattle.update.specs.Answers.{started_from};
 ghost use Rattle.update.specs.Start.{clash_of, sequence_allows_of, upper_free_of, start_decline_of, start_of};
@@ -11,6 +10,7 @@ ghost use Rattle.update.specs.Start.{clash_of, sequence_allows_of, upper_free_of
 use common_declines::common_decline::common_decline;
 use device::record::Device;
 use device::registers::{Nvmbwp, Nvmcon};
+use flash::lent::Banks;
 use geometry::banks::Geometry;
 use geometry::layout::Layout;
 use geometry::lent::Lent;
@@ -33,15 +33,19 @@ fn clashes(w: u32) -> bool
 
 // Whether decline 10 does not apply.
 #[tactic(auto, unfolding(update::specs::Start::sequence_allows_of))]
-fn sequence_allows(layout: Layout, d: Device, one: &[u32], two: &[u32]) -> bool
-    requires { (length one.now ≡ bank_words_of layout.geometry) × (length two.now ≡ bank_words_of layout.geometry) }
-    ensures { result ≡ sequence_allows_of layout.geometry (lent d one.entry two.entry) }
+fn sequence_allows(banks: Banks, d: Device) -> bool
+    ensures { result ≡ sequence_allows_of banks.entry.layout.geometry (lent d banks.entry.one banks.entry.two) }
 {
     let bfswap = has(d.nvmcon.0, Nvmcon::BFSWAP);
     // the lower bank of the banks exchanged is the other bank
-    let other = lower_word(layout, d, two, one);
-    is_valid(lower_word(layout, d, one, two))
-        && compared(layout, one, two).second == bfswap
+    let exchanged = Banks {
+        layout: banks.layout,
+        one: banks.two,
+        two: banks.one,
+    };
+    let other = lower_word(exchanged, d);
+    is_valid(lower_word(banks, d))
+        && compared(banks).second == bfswap
         && has(d.nvmcon.0, Nvmcon::PFSWAP) == bfswap
         && (is_valid(other) || clashes(other))
 }
@@ -69,10 +73,11 @@ fn start_decline(
     if has(d.nvmcon.0, Nvmcon::WR) {
         return Err(Decline::Running);
     }
-    if !sequence_allows(layout, d, one, two) {
+    let banks = Banks { layout, one, two };
+    if !sequence_allows(banks, d) {
         return Err(Decline::Sequence);
     }
-    if tseq(lower_word(layout, d, one, two)) == 65535 {
+    if tseq(lower_word(banks, d)) == 65535 {
         return Err(Decline::LastSequence);
     }
     if !is_upper_free(layout, d) {

@@ -3,7 +3,7 @@
 
 ghost use Rattle.std.specs.Prelude.{◌≡◌, true, false, ◌+◌, ◌≤◌, ◌<◌, length};
 ghost use Rattle.geometry.specs.Lent.{most_sram};
-ghost use Rattle.geometry.specs.Banks.{in_range_of, bank_words_of};
+ghost use Rattle.geometry.specs.Banks.{in_range_of};
 ghost use Rattle.device.specs.State.{state, lent};
 ghost use Rattle.common_declines.specs.Possible.{possible_of};
 ghost use Rattle.flash.specs.Write.{no_write, Fits};
@@ -14,10 +14,9 @@ use common_declines::common_decline::common_decline;
 use device::outcome::Outcome;
 use device::record::Device;
 use device::registers::Nvmcon;
-use flash::step::step_effect;
+use flash::lent::{Banks, Running};
 use flash::write::{Write, apply, no_write};
 use geometry::banks::Geometry;
-use geometry::layout::Layout;
 use geometry::lent::Lent;
 use register_access::{may_store, store_accepted};
 use update::actions::Action;
@@ -46,23 +45,20 @@ fn going(outcome: Outcome, write: Write, place: u32) -> TurnChange
 // The effect of the action of a place, or its decline. No call of the updater: turn_effect judges the other declines first.
 #[tactic(auto, unfolding(update::specs::Turn::act_of))]
 fn act(
-    layout: Layout,
+    banks: Banks,
     d: Device,
-    one: &[u32],
-    two: &[u32],
     sram: &[u32],
     place: u32,
     action: Action,
 ) -> Result<TurnChange, Decline>
-    requires g_value { in_range_of layout.geometry ≡ true }
-    requires d_value { possible_of layout.geometry d ≡ true }
-    requires one_len { (length one.now ≡ bank_words_of layout.geometry) × (length two.now ≡ bank_words_of layout.geometry) }
+    requires g_value { in_range_of banks.layout.geometry ≡ true }
+    requires d_value { possible_of banks.layout.geometry d ≡ true }
     requires sram_len_bound { length sram.now ≤ most_sram }
     requires formed { Formed action }
     requires place_bound { place < 2000000 }
-    ensures result_value { effected_of (lent d one.entry two.entry) (turn_effect_from d place result)
-        ≡ act_of layout.geometry (lent d one.entry two.entry) sram.now place action }
-    ensures fits { Fits one.now two.now (turn_effect_from d place result).write }
+    ensures result_value { effected_of (lent d banks.entry.one banks.entry.two) (turn_effect_from d place result)
+        ≡ act_of banks.entry.layout.geometry (lent d banks.entry.one banks.entry.two) sram.now place action }
+    ensures fits { Fits banks.entry.one.now banks.entry.two.now (turn_effect_from d place result).write }
 {
     match action {
         Action::Store(number, form, value) => {
@@ -70,7 +66,7 @@ fn act(
                 return Err(Decline::Running);
             }
             Ok(going(
-                store_accepted(layout, d, number, form, value),
+                store_accepted(banks.layout, d, number, form, value),
                 no_write(),
                 place,
             ))
@@ -79,7 +75,8 @@ fn act(
             if !has(d.nvmcon.0, Nvmcon::WR) {
                 return Err(Decline::Idle);
             }
-            let e = step_effect(layout, d, one, two, sram);
+            let running = Running { banks, device: d };
+            let e = running.step_effect(sram);
             Ok(going(e.outcome, e.write, place))
         }
     }
@@ -117,8 +114,9 @@ pub fn turn_effect(
             write: no_write(),
         });
     }
-    let action = action_at(layout, image, lower_word(layout, d, one, two), place);
-    act(layout, d, one, two, sram, place, action)
+    let banks = Banks { layout, one, two };
+    let action = action_at(layout, image, lower_word(banks, d), place);
+    act(banks, d, sram, place, action)
 }
 
 // One turn.

@@ -41,12 +41,17 @@ steps-waited-requires c =
     let on = busy _ _ _ _ c.is_free.ensures c.if-is_free.false in
     rw c.in_ok-layout.ensures.found.0 (step_accepts _ _ _ _ _ r on)
 
-pub word_read-requires-clause-one_len : goal.word_read-requires-clause-one_len
-word_read-requires-clause-one_len c =
+pub invariant_of-banks : goal.invariant_of-banks
+invariant_of-banks c =
     let r = (read_ready _ _ _ _ _ _ (sym (ap accepted_of c.in_ok-layout.ensures.verdict))).0 in
-    rw c.in_ok-layout.ensures.found.0 (c.if-is_free.auto.one ∙ r.lent.banks.0, c.if-is_free.auto.two ∙ r.lent.banks.1.0)
+    record { lengths = rw c.in_ok-layout.ensures.found.0 (r.lent.banks.0, r.lent.banks.1.0) }
 
-pub word_read-requires-clause-room : goal.word_read-requires-clause-room
-word_read-requires-clause-room c =
+pub invariant_of-after : goal.invariant_of-after
+invariant_of-after c =
+    let r = (read_ready _ _ _ _ _ _ (sym (ap accepted_of c.in_ok-layout.ensures.verdict))).0 in
+    record { lengths = rw c.in_ok-layout.ensures.found.0 (c.if-is_free.auto.one ∙ r.lent.banks.0, c.if-is_free.auto.two ∙ r.lent.banks.1.0) }
+
+pub word_read-requires : goal.word_read-requires
+word_read-requires c =
     let (r, inside) = read_ready _ _ _ _ _ _ (sym (ap accepted_of c.in_ok-layout.ensures.verdict)) in
     rw c.in_ok-layout.ensures.found.0 (lies _ _ _ r.lent.range c.in_ok-layout.ensures.found.1 inside)

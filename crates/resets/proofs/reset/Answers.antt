@@ -13,7 +13,7 @@ tear-requires-clause-one_len c =
     let ready = reset_ready _ _ _ _ _ _ (sym (ap accepted_of c.in_ok-layout.ensures.verdict)) in
     rw c.in_ok-layout.ensures.known.0 (ready.lent.banks.0, ready.lent.banks.1.0)
 
-pub compared-c-requires : goal.compared-c-requires
-compared-c-requires c =
+pub invariant_of-banks : goal.invariant_of-banks
+invariant_of-banks c =
     let ready = reset_ready _ _ _ _ _ _ (sym (ap accepted_of c.in_ok-layout.ensures.verdict)) in
-    rw c.in_ok-layout.ensures.known.0 (c.tear.auto.one ∙ ready.lent.banks.0, c.tear.auto.two ∙ ready.lent.banks.1.0)
+    record { lengths = rw c.in_ok-layout.ensures.known.0 (c.tear.auto.one ∙ ready.lent.banks.0, c.tear.auto.two ∙ ready.lent.banks.1.0) }

@@ -6,8 +6,12 @@ use Rattle.flash.proofs.EffectLaws.{effect_in_bank}
 use Rattle.flash.proofs.AcceptedLaws.{runs}
 use Rattle.resets.proofs.tear.Goals as goal
 
-pub next_effect-requires-clause-runs : goal.next_effect-requires-clause-runs
-next_effect-requires-clause-runs c = runs c.args.layout.geometry c.args.d c.args.layout.in_range c.requires.d_value (sym c.has.ensures ∙ c.if-not-has.false)
+pub invariant_of-banks : goal.invariant_of-banks
+invariant_of-banks c = record { lengths = c.requires.one_len }
+
+pub invariant_of-running : goal.invariant_of-running
+invariant_of-running c =
+    record { runs = runs c.args.layout.geometry c.args.d c.args.layout.in_range c.requires.d_value (sym c.has.ensures ∙ c.if-not-has.false) }
 
 pub old_quad-old-requires : goal.old_quad-old-requires
 old_quad-old-requires c =

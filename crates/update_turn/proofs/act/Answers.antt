@@ -25,38 +25,38 @@ returns-else-not-may_store-clause-result_value c =
     rw (c.going.ensures, c.in-Store.is, may)
     (ap
     (λ (w : Write).
-    effected_of (state a.d a.one.now a.two.now)
+    effected_of (state a.d a.banks.one.now a.banks.two.now)
     (record {
       turned = turned_from a.d a.place (Ok (record { done = false; device = o.device; place = a.place + 1; event = o.event }));
       write = w;
     })) c.no_write.ensures
-    ∙ rw (store_carried a.layout.geometry a.d _ _ _ c.requires.g_value c.requires.d_value formed may, ← c.store_accepted.ensures) refl)
+    ∙ rw (store_carried a.banks.layout.geometry a.d _ _ _ c.requires.g_value c.requires.d_value formed may, ← c.store_accepted.ensures) refl)
 
 -- an operation runs
-pub step_effect-e-requires-clause-runs : goal.step_effect-e-requires-clause-runs
-step_effect-e-requires-clause-runs c =
+pub invariant_of-running : goal.invariant_of-running
+invariant_of-running c =
     let a = c.args in
-    runs a.layout.geometry a.d a.layout.in_range c.requires.d_value (sym c.has.ensures ∙ c.if-not-has.false)
+    record { runs = runs a.banks.layout.geometry a.d a.banks.layout.in_range c.requires.d_value (sym c.has.ensures ∙ c.if-not-has.false) }
 
 pub returns-else-not-has-clause-result_value : goal.returns-else-not-has-clause-result_value
 unfolding act_of
 returns-else-not-has-clause-result_value c =
     let a = c.args in
     let on : running a.d ≡ true = sym c.has.ensures ∙ c.if-not-has.false in
-    let s = state a.d a.one.now a.two.now in
-    let sound : Sound a.layout.geometry s = record { possible = c.requires.d_value; first = c.requires.one_len.0; other = c.requires.one_len.1 } in
+    let s = state a.d a.banks.one.now a.banks.two.now in
+    let sound : Sound a.banks.layout.geometry s = record { possible = c.requires.d_value; first = a.banks.lengths.0; other = a.banks.lengths.1 } in
     rw (
       c.going-in-Step.ensures,
       c.in-Step.is,
       on,
-      step_carried a.layout.geometry s a.sram.now c.requires.g_value sound c.requires.sram_len_bound on,
+      step_carried a.banks.layout.geometry s a.sram.now c.requires.g_value sound c.requires.sram_len_bound on,
     ) (ap (λ (e : StepEffect). performed a.place (stepped_of s e)) c.step_effect-e.ensures)
 
 pub returns-else-not-has-clause-fits : goal.returns-else-not-has-clause-fits
 returns-else-not-has-clause-fits c =
     let a = c.args in
     let on : running a.d ≡ true = sym c.has.ensures ∙ c.if-not-has.false in
-    subst (λ (w : Write). Fits a.one.now a.two.now w)
+    subst (λ (w : Write). Fits a.banks.one.now a.banks.two.now w)
     (sym (ap (λ (r : TurnChange). write_from r.write) c.going-in-Step.ensures ∙ ap (λ (e : StepEffect). e.write) c.step_effect-e.ensures))
-    (effect_fits a.layout.geometry (state a.d a.one.now a.two.now) a.sram.now
-    (runs a.layout.geometry a.d a.layout.in_range c.requires.d_value on) c.requires.one_len)
+    (effect_fits a.banks.layout.geometry (state a.d a.banks.one.now a.banks.two.now) a.sram.now
+    (runs a.banks.layout.geometry a.d a.banks.layout.in_range c.requires.d_value on) a.banks.lengths)

@@ -11,10 +11,10 @@ pub act-requires-clause-place_bound : goal.act-requires-clause-place_bound
 act-requires-clause-place_bound c =
     omega (arith, total_high c.in_ok-layout.layout.geometry c.in_ok-layout.layout.in_range, c.total-total.ensures, c.if-total-place.false)
 
-pub lower_word-requires : goal.lower_word-requires
-lower_word-requires c =
+pub invariant_of-banks : goal.invariant_of-banks
+invariant_of-banks c =
     let r = went_ready c.common_decline.ensures.verdict c.in_ok-layout.was c.in_ok-layout.ensures.layout in
-    (r.lent.banks.0, r.lent.banks.1.0)
+    record { lengths = (r.lent.banks.0, r.lent.banks.1.0) }
 
 pub action_at-action-requires-clause-image_len : goal.action_at-action-requires-clause-image_len
 action_at-action-requires-clause-image_len c =
@@ -30,11 +30,6 @@ pub act-requires-clause-d_value : goal.act-requires-clause-d_value
 act-requires-clause-d_value c =
     let r = went_ready c.common_decline.ensures.verdict c.in_ok-layout.was c.in_ok-layout.ensures.layout in
     r.possible
-
-pub act-requires-clause-one_len : goal.act-requires-clause-one_len
-act-requires-clause-one_len c =
-    let r = went_ready c.common_decline.ensures.verdict c.in_ok-layout.was c.in_ok-layout.ensures.layout in
-    (r.lent.banks.0, r.lent.banks.1.0)
 
 pub act-requires-clause-sram_len_bound : goal.act-requires-clause-sram_len_bound
 act-requires-clause-sram_len_bound c =

@@ -7,13 +7,12 @@ use Rattle.flash.proofs.EffectLaws.{effect_fits}
 use Rattle.flash.proofs.AcceptedLaws.{step_ready}
 use Rattle.flash.proofs.step.step_accepted.Goals as goal
 
-pub step_effect-e-requires-clause-runs : goal.step_effect-e-requires-clause-runs
-step_effect-e-requires-clause-runs c = (step_ready _ _ _ _ _ c.requires).1
+pub invariant_of-banks : goal.invariant_of-banks
+invariant_of-banks c =
+    let (ready, on, _) = step_ready _ _ _ _ _ c.requires in record { lengths = (ready.lent.banks.0, ready.lent.banks.1.0) }
 
-pub step_effect-e-requires-clause-one_len : goal.step_effect-e-requires-clause-one_len
-step_effect-e-requires-clause-one_len c =
-    let (ready, on, _) = step_ready _ _ _ _ _ c.requires in
-    (ready.lent.banks.0, ready.lent.banks.1.0)
+pub invariant_of-step_effect : goal.invariant_of-step_effect
+invariant_of-step_effect c = record { runs = (step_ready _ _ _ _ _ c.requires).1 }
 
 pub apply-requires : goal.apply-requires
 apply-requires c =
