@@ -10,6 +10,7 @@ ghost use Rattle.update.specs.Actions.{recorded, total_of};
 ghost use Rattle.script_write.specs.Script.{script_of, write_script_decline_of, writing_from, write_script_of};
 
 use device::record::Device;
+use flash::lent::Banks;
 use geometry::banks::Geometry;
 use geometry::layout::Layout;
 use script_format::{Record, put_record};
@@ -90,6 +91,7 @@ pub fn write_script(
 {
     write_script_decline(g, d, one, two, image, out.len())?;
     let layout = Layout { geometry: g };
-    put_actions(out, layout, image, lower_word(layout, d, one, two));
+    let banks = Banks { layout, one, two };
+    put_actions(out, layout, image, lower_word(banks, d));
     Ok(total(layout))
 }

@@ -28,3 +28,7 @@ returns c =
 pub invariant_of-layout : goal.invariant_of-layout
 invariant_of-layout c =
     record { in_range = (went_holds c.write_script_decline.ensures c.in_ok-write_script_decline.was).sizes.range }
+
+pub invariant_of-banks : goal.invariant_of-banks
+invariant_of-banks c =
+    let sizes = (went_holds c.write_script_decline.ensures c.in_ok-write_script_decline.was).sizes in record { lengths = (sizes.first, sizes.other) }

@@ -6,15 +6,17 @@ use Rattle.flash.proofs.lent.Running.next_effect.Goals as goal
 
 pub is_blocked-requires : goal.is_blocked-requires
 is_blocked-requires c =
-    let banks = c.args.self.banks in
+    let r = c.args.self in
+    let g = r.banks.layout.geometry in
     let at = ap (λ (l : Location). l.offset) c.step_location-l.ensures in
-    let window = ap (λ (l : Location). window_bytes_of banks.layout.geometry l.program) c.step_location-l.ensures in
-    omega (arith, at, window, runs_room banks.layout.geometry c.args.self.device c.args.self.runs)
+    let window = ap (λ (l : Location). window_bytes_of g l.program) c.step_location-l.ensures in
+    omega (arith, at, window, runs_room g r.device r.runs)
 
 pub old_quad-requires : goal.old_quad-requires
 old_quad-requires c =
-    let banks = c.args.self.banks in
-    let room = runs_in_bank banks.layout.geometry c.args.self.device c.args.self.runs in
+    let r = c.args.self in
+    let g = r.banks.layout.geometry in
+    let room = runs_in_bank g r.device r.runs in
     let at = c.quad_index-quad.ensures in
-    let is = ap (quad_index_of banks.layout.geometry) c.step_location-l.ensures in
-    (omega (arith, room, at, is, banks.lengths.0), omega (arith, room, at, is, banks.lengths.1))
+    let is = ap (quad_index_of g) c.step_location-l.ensures in
+    (omega (arith, room, at, is, r.banks.lengths.0), omega (arith, room, at, is, r.banks.lengths.1))

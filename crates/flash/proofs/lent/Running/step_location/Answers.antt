@@ -7,11 +7,11 @@ use Rattle.flash.proofs.lent.Running.step_location.Goals as goal
 
 pub unwrap-target-requires : goal.unwrap-target-requires
 unwrap-target-requires c =
-    let banks = c.args.self.banks in
-    found _ _ (rw c.op-op.ensures at c.target.ensures) (target_inside banks.layout.geometry c.args.self.device c.args.self.runs (omega arith))
+    let r = c.args.self in
+    found _ _ (rw c.op-op.ensures at c.target.ensures) (target_inside r.banks.layout.geometry r.device r.runs (omega arith))
 
 pub overflow_add-result : goal.overflow_add-result
 overflow_add-result c =
-    let banks = c.args.self.banks in
+    let r = c.args.self in
     let at = rw (c.unwrap-target.ensures, c.op-op.ensures) at c.target.ensures in
-    omega (arith, ap (λ (l : Location). l.offset) at, target_fits banks.layout.geometry c.args.self.device c.args.self.runs (omega arith))
+    omega (arith, ap (λ (l : Location). l.offset) at, target_fits r.banks.layout.geometry r.device r.runs (omega arith))
