@@ -4,7 +4,6 @@
 
 ghost use Rattle.std.specs.Prelude.{◌≡◌, ◌*◌, ◌≤◌, length};
 ghost use Rattle.std.proofs.lemmas.List.Edits.{sets};
-ghost use Rattle.geometry.specs.Banks.{bank_words_of};
 ghost use Rattle.device.specs.State.{lent};
 ghost use Rattle.update.specs.Actions.{recorded, total_of};
 ghost use Rattle.script_write.specs.Script.{script_of, write_script_decline_of, writing_from, write_script_of};
@@ -15,8 +14,9 @@ use geometry::banks::Geometry;
 use geometry::layout::Layout;
 use script_format::{Record, put_record};
 use update::actions::Action;
-use update_actions::actions::{action_at, total};
+use update_actions::actions::total;
 use update_actions::lower_word::lower_word;
+use update_actions::new_bank::NewBank;
 use update_start::start;
 use words::decline::Decline;
 
@@ -45,14 +45,14 @@ fn record_of(action: Action) -> Record
     }
 }
 
-// Writes the record of every action, for the old bank's sequence word w.
-fn put_actions(out: &mut [u8], layout: Layout, image: &[u32], w: u32)
-    requires image_len { length image.now ≡ bank_words_of layout.geometry }
-    requires g_in_bounds { 8 * total_of layout.geometry ≤ length out.old }
-    ensures { out.new ≡ sets out.old 0 (script_of layout.geometry image.now w) }
+// Writes the record of every action.
+fn put_actions(out: &mut [u8], new: NewBank)
+    requires { 8 * total_of new.layout.geometry ≤ length out.old }
+    ensures { out.new ≡ sets out.old 0 (script_of new.entry.layout.geometry new.entry.image.now new.entry.word) }
 {
+    let layout = new.layout;
     for place in 0..total(layout) {
-        let action = action_at(layout, image, w, place);
+        let action = new.action_at(place);
         put_record(out, RECORD_BYTES * place as usize, record_of(action));
     }
 }
@@ -92,6 +92,11 @@ pub fn write_script(
     write_script_decline(g, d, one, two, image, out.len())?;
     let layout = Layout { geometry: g };
     let banks = Banks { layout, one, two };
-    put_actions(out, layout, image, lower_word(banks, d));
+    let new = NewBank {
+        layout,
+        image,
+        word: lower_word(banks, d),
+    };
+    put_actions(out, new);
     Ok(total(layout))
 }

@@ -1,11 +1,12 @@
 // The actions of an update, by place.
 // What takes a Layout, or asks for a place of its list, is no call of the updater: its callers judge their declines first.
-ghost use Rattle.std.specs.Prelude.{◌≡◌, ◌+◌, ◌<◌, length, get_or};
-ghost use Rattle.geometry.specs.Banks.{pages_of, bank_words_of};
+ghost use Rattle.std.specs.Prelude.{◌≡◌, ◌+◌, ◌<◌, get_or};
+ghost use Rattle.geometry.specs.Banks.{pages_of};
 ghost use Rattle.update.specs.declared.actions.Action.TheVariants.{Step};
 ghost use Rattle.update.specs.Actions.{prologue, stored, launch_stores, erased_page_of, total_of, page_action_of, action_at_of};
 
-use crate::programming::{quad_action, upper_address};
+use crate::new_bank::NewBank;
+use crate::programming::upper_address;
 use device::numbers::{CLEAR, KEY1, KEY2, KEY3, PAGE_ERASE, PLAIN, SET};
 use device::registers::{NVMADDR, NVMKEY, Nvmbwp, Nvmcon};
 use geometry::layout::Layout;
@@ -91,22 +92,24 @@ fn page_action(layout: Layout, page: u32, k: u32) -> Action
     Action::Store(Nvmcon::NUMBER, CLEAR, Nvmcon::WREN)
 }
 
-// The action of a place.
-#[tactic(auto, unfolding(update::specs::Actions::action_at_of))]
-pub fn action_at(layout: Layout, image: &[u32], w: u32, place: u32) -> Action
-    requires image_len { length image.now ≡ bank_words_of layout.geometry }
-    requires place_bound { place < total_of layout.geometry }
-    ensures { result ≡ action_at_of layout.geometry image.now w place }
-{
-    if place < 12 {
-        return prologue_action(place);
+impl NewBank<'_> {
+    // The action of a place.
+    #[tactic(auto, unfolding(update::specs::Actions::action_at_of))]
+    pub fn action_at(self, place: u32) -> Action
+        requires { place < total_of self.layout.geometry }
+        ensures { result ≡ action_at_of self.entry.layout.geometry self.entry.image.now self.entry.word place }
+    {
+        if place < 12 {
+            return prologue_action(place);
+        }
+        let layout = self.layout;
+        let block = 8 + layout.page_quads();
+        let programming = 12 + layout.pages() * block;
+        if place < programming {
+            let from = place - 12;
+            return page_action(layout, erased_page(layout, from / block), from % block);
+        }
+        let from = place - programming;
+        self.quad_action(from / 13, from % 13)
     }
-    let block = 8 + layout.page_quads();
-    let programming = 12 + layout.pages() * block;
-    if place < programming {
-        let from = place - 12;
-        return page_action(layout, erased_page(layout, from / block), from % block);
-    }
-    let from = place - programming;
-    quad_action(layout, image, w, from / 13, from % 13)
 }

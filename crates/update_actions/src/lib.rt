@@ -3,4 +3,5 @@
 
 pub mod actions;
 pub mod lower_word;
+pub mod new_bank;
 mod programming;

@@ -1,10 +1,10 @@
 // The quads of an update: where each stands, what it holds, and its actions.
 // What takes a Layout, or asks for a quad of the bank, is no call of the updater: its callers judge their declines first.
-ghost use Rattle.std.specs.Prelude.{◌≡◌, ◌<◌, length};
-ghost use Rattle.geometry.specs.Banks.{bank_words_of};
+ghost use Rattle.std.specs.Prelude.{◌≡◌, ◌<◌};
 ghost use Rattle.update.specs.Actions.{upper_address_of, programmed_quad_of, new_quad_of, bank_quads_of, quad_action_of};
 
 use crate::actions::launch_action;
+use crate::new_bank::NewBank;
 use device::numbers::{CLEAR, PLAIN, QUAD_PROGRAM};
 use device::registers::{NVMADDR, NVMDATA0, NVMDATA1, NVMDATA2, NVMDATA3, Nvmcon};
 use geometry::layout::Layout;
@@ -38,29 +38,38 @@ fn programmed_quad(layout: Layout, i: u32) -> u32
     i - program
 }
 
-// A quad of the new bank, for the old bank's sequence word w.
-#[tactic(auto, unfolding(update::specs::Actions::new_quad_of))]
-fn new_quad(layout: Layout, image: &[u32], w: u32, quad: u32) -> [u32; 4]
-    requires image_len { length image.now ≡ bank_words_of layout.geometry }
-    requires quad_bound { quad < bank_quads_of layout.geometry }
-    ensures { result ≡ new_quad_of layout.geometry image.now w quad }
-{
-    if quad == sequence_quad(layout) {
-        return next_sequence(w);
+impl NewBank<'_> {
+    // A quad of the new bank.
+    #[tactic(auto, unfolding(update::specs::Actions::new_quad_of))]
+    fn quad(self, quad: u32) -> [u32; 4]
+        requires { quad < bank_quads_of self.layout.geometry }
+        ensures { result ≡ new_quad_of self.entry.layout.geometry self.entry.image.now self.entry.word quad }
+    {
+        if quad == sequence_quad(self.layout) {
+            return next_sequence(self.word);
+        }
+        quad_at(self.image, quad as usize)
     }
-    quad_at(image, quad as usize)
+
+    // Action k of quad i of the programming.
+    pub fn quad_action(self, i: u32, k: u32) -> Action
+        requires i_bound { i < bank_quads_of self.layout.geometry }
+        requires k_bound { k < 13 }
+        ensures { result ≡ quad_action_of self.entry.layout.geometry (programmed_quad_of self.entry.layout.geometry i)
+            (new_quad_of self.entry.layout.geometry self.entry.image.now self.entry.word (programmed_quad_of self.entry.layout.geometry i)) k }
+    {
+        let quad = programmed_quad(self.layout, i);
+        program_action(self.layout, quad, self.quad(quad), k)
+    }
 }
 
-// Action k of quad i of the programming.
+// Action k of the programming of a quad.
 #[tactic(auto, unfolding(update::specs::Actions::quad_action_of))]
-pub fn quad_action(layout: Layout, image: &[u32], w: u32, i: u32, k: u32) -> Action
-    requires image_len { length image.now ≡ bank_words_of layout.geometry }
-    requires i_bound { i < bank_quads_of layout.geometry }
+fn program_action(layout: Layout, quad: u32, words: [u32; 4], k: u32) -> Action
+    requires quad_bound { quad < bank_quads_of layout.geometry }
     requires k_bound { k < 13 }
-    ensures { result ≡ quad_action_of layout.geometry (programmed_quad_of layout.geometry i) (new_quad_of layout.geometry image.now w (programmed_quad_of layout.geometry i)) k }
+    ensures { result ≡ quad_action_of layout.geometry quad words k }
 {
-    let quad = programmed_quad(layout, i);
-    let words = new_quad(layout, image, w, quad);
     match k {
         0 => Action::Store(NVMADDR, PLAIN, upper_address(layout, quad)),
         1 => Action::Store(NVMDATA0, PLAIN, words[0]),

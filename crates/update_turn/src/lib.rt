@@ -21,8 +21,9 @@ use geometry::lent::Lent;
 use register_access::{may_store, store_accepted};
 use update::actions::Action;
 use update::turn::{TurnChange, TurnOutcome};
-use update_actions::actions::{action_at, total};
+use update_actions::actions::total;
 use update_actions::lower_word::lower_word;
+use update_actions::new_bank::NewBank;
 use words::decline::Decline;
 use words::word::has;
 
@@ -115,7 +116,12 @@ pub fn turn_effect(
         });
     }
     let banks = Banks { layout, one, two };
-    let action = action_at(layout, image, lower_word(banks, d), place);
+    let new = NewBank {
+        layout,
+        image,
+        word: lower_word(banks, d),
+    };
+    let action = new.action_at(place);
     act(banks, d, sram, place, action)
 }
 

@@ -6,12 +6,12 @@ use Rattle.script_write.proofs.put_actions.Goals as goal
 
 pub loop-place-preserved : goal.loop-place-preserved
 loop-place-preserved c =
-    let below : c.loop-place.place < total_of c.args.layout.geometry = omega (arith, c.loop-place-test.true, c.total-place-end.ensures) in
+    let below : c.loop-place.place < total_of c.args.new.layout.geometry = omega (arith, c.loop-place-test.true, c.total-place-end.ensures) in
     rw (add-one c.loop-place.place, c.put_record.ensures, c.record_of.ensures, c.action_at-action.ensures, c.loop-place.invariant)
-    (put_next c.args.layout.geometry c.args.image.now c.args.w c.args.out.now c.loop-place.place below)
+    (put_next c.args.new.layout.geometry c.args.new.image.now c.args.new.word c.args.out.now c.loop-place.place below)
 
 pub returns : goal.returns
 returns c =
-    let all : c.loop-place.place ≡ total_of c.args.layout.geometry =
+    let all : c.loop-place.place ≡ total_of c.args.new.layout.geometry =
     omega (arith, c.loop-place-test.false, c.loop-place.auto.place-end, c.total-place-end.ensures) in
-    rw (all, put_all c.args.layout.geometry c.args.image.now c.args.w) at c.loop-place.invariant
+    rw (all, put_all c.args.new.layout.geometry c.args.new.image.now c.args.new.word) at c.loop-place.invariant

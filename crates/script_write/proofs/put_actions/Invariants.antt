@@ -5,4 +5,4 @@ use Rattle.script_write.proofs.ScriptLaws.{first_records}
 use Rattle.script_write.proofs.put_actions.Given as goal
 
 abbrev pub invariant-loop-place : goal.invariant-loop-place
-invariant-loop-place l = l.out ≡ sets l.fn.out 0 (first_records l.layout.geometry l.image l.w l.place)
+invariant-loop-place l = l.out ≡ sets l.fn.out 0 (first_records l.new.layout.geometry l.new.image.now l.new.word l.place)

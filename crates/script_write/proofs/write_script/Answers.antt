@@ -32,3 +32,7 @@ invariant_of-layout c =
 pub invariant_of-banks : goal.invariant_of-banks
 invariant_of-banks c =
     let sizes = (went_holds c.write_script_decline.ensures c.in_ok-write_script_decline.was).sizes in record { lengths = (sizes.first, sizes.other) }
+
+pub invariant_of-new : goal.invariant_of-new
+invariant_of-new c =
+    record { long = (went_holds c.write_script_decline.ensures c.in_ok-write_script_decline.was).sizes.long }

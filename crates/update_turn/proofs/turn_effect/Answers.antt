@@ -16,10 +16,10 @@ invariant_of-banks c =
     let r = went_ready c.common_decline.ensures.verdict c.in_ok-layout.was c.in_ok-layout.ensures.layout in
     record { lengths = (r.lent.banks.0, r.lent.banks.1.0) }
 
-pub action_at-action-requires-clause-image_len : goal.action_at-action-requires-clause-image_len
-action_at-action-requires-clause-image_len c =
+pub invariant_of-new : goal.invariant_of-new
+invariant_of-new c =
     let r = went_ready c.common_decline.ensures.verdict c.in_ok-layout.was c.in_ok-layout.ensures.layout in
-    r.lent.banks.1.1.0
+    record { long = r.lent.banks.1.1.0 }
 
 pub act-requires-clause-g_value : goal.act-requires-clause-g_value
 act-requires-clause-g_value c =
