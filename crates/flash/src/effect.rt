@@ -1,5 +1,5 @@
 // What the next step of a running operation does: a step carries it out, and a reset tears it.
-// What asks for room in the banks is no call of the device: its callers decide their decline first.
+// What asks for Runs, or for room in the banks, is no call of the device: its callers decide their decline first.
 ghost use Rattle.std.specs.Prelude.{◌≡◌, ℕ, Bool, ◌+◌, ◌*◌, ◌^◌, ◌<◌, ◌≤◌, true, length};
 ghost use Rattle.std.specs.Option.{is_none, is_some, unwrap_or};
 ghost use Rattle.words.specs.Word.{pick};
@@ -8,7 +8,7 @@ ghost use Rattle.device.specs.Record.{bfswap, pfswap};
 ghost use Rattle.device.specs.State.{lent};
 ghost use Rattle.map.specs.Windows.{window_bytes_of, located, in_second_of};
 ghost use Rattle.map.specs.Location.{stands_of};
-ghost use Rattle.flash.specs.Effect.{step_location_of, blocked_of, source_fits_of, source_word_of, effect, effect_from, effect_at_of, effect_of};
+ghost use Rattle.flash.specs.Effect.{Runs, step_location_of, blocked_of, source_fits_of, source_word_of, effect, effect_from, effect_at_of, effect_of};
 
 use crate::lent::{Banks, Running};
 use crate::write::Write;
@@ -108,30 +108,36 @@ fn intended(d: Device, sram: &[u32], old: [u32; 4]) -> Option<[u32; 4]>
     Some(quad_from(sram, source_word(d)))
 }
 
+// Where the quad of the next step stands. No call of the device: its callers show that an operation runs.
+#[tactic(auto, using(crate::proofs::EffectLaws::steps_high), unfolding(crate::specs::Effect::step_at_of))]
+pub fn step_location(layout: Layout, d: Device) -> Location
+    requires { Runs layout.geometry d }
+    ensures { stands_of result ≡ step_location_of layout.geometry d }
+{
+    let op = op(d);
+    let step = d.step;
+    let region = 8 * layout.geometry.q * layout.geometry.p;
+    match op {
+        NO_OPERATION..=PAGE_ERASE => {
+            let target = target(layout, op, d.launched.nvmaddr).unwrap();
+            Location {
+                offset: target.offset + 16 * step,
+                ..target
+            }
+        }
+        LOWER_ERASE => in_region(false, step),
+        UPPER_ERASE => in_region(true, step),
+        _ if step < region => in_region(false, step),
+        _ => in_region(true, step - region),
+    }
+}
+
 impl Running<'_> {
     // Where the quad of the next step stands.
-    #[tactic(auto, using(crate::proofs::EffectLaws::steps_high), unfolding(crate::specs::Effect::step_at_of))]
     pub fn step_location(self) -> Location
         ensures { stands_of result ≡ step_location_of self.entry.banks.layout.geometry self.entry.device }
     {
-        let layout = self.banks.layout;
-        let d = self.device;
-        let op = op(d);
-        let step = d.step;
-        let region = 8 * layout.geometry.q * layout.geometry.p;
-        match op {
-            NO_OPERATION..=PAGE_ERASE => {
-                let target = target(layout, op, d.launched.nvmaddr).unwrap();
-                Location {
-                    offset: target.offset + 16 * step,
-                    ..target
-                }
-            }
-            LOWER_ERASE => in_region(false, step),
-            UPPER_ERASE => in_region(true, step),
-            _ if step < region => in_region(false, step),
-            _ => in_region(true, step - region),
-        }
+        step_location(self.banks.layout, self.device)
     }
 
     // What the next step does.

@@ -16,8 +16,8 @@ use device::numbers::BOTH_ERASE;
 use device::outcome::Outcome;
 use device::record::Device;
 use device::registers::Nvmcon;
-use flash::effect::second_at;
-use flash::lent::{Banks, Running};
+use flash::effect::{second_at, step_location};
+use flash::lent::Banks;
 use flash::step::step_accepted;
 use geometry::banks::Geometry;
 use geometry::layout::Layout;
@@ -37,9 +37,9 @@ pub struct FlashWord {
 
 // Whether no running operation targets the bank.
 #[tactic(auto, unfolding(crate::specs::Read::free_of))]
-fn is_free(banks: Banks, d: Device, second: bool) -> bool
-    requires { possible_of banks.layout.geometry d ≡ true }
-    ensures { result ≡ free_of banks.entry.layout.geometry d second }
+fn is_free(layout: Layout, d: Device, second: bool) -> bool
+    requires { possible_of layout.geometry d ≡ true }
+    ensures { result ≡ free_of layout.geometry d second }
 {
     if !has(d.nvmcon.0, Nvmcon::WR) {
         return true;
@@ -47,7 +47,7 @@ fn is_free(banks: Banks, d: Device, second: bool) -> bool
     if op(d) == BOTH_ERASE {
         return false;
     }
-    second_at(d, Running { banks, device: d }.step_location()) != second
+    second_at(d, step_location(layout, d)) != second
 }
 
 // Where the word of a read stands that is not declined.
@@ -125,8 +125,7 @@ pub fn flash_read(
     ensures { reading_from d result one.new two.new ≡ flash_read_of g (state d one.old two.old) sram.now address }
 {
     let (layout, l) = read_location(g, d, one.len(), two.len(), sram.len(), address)?;
-    let banks = Banks { layout, one, two };
-    let waited = if is_free(banks, d, second_at(d, l)) {
+    let waited = if is_free(layout, d, second_at(d, l)) {
         Outcome {
             device: d,
             event: false,
@@ -134,9 +133,9 @@ pub fn flash_read(
     } else {
         steps(layout, d, one, two, sram, length(layout, op(d)) - d.step)
     };
-    let after = Banks { layout, one, two };
+    let banks = Banks { layout, one, two };
     Ok(FlashWord {
-        word: word_read(after, waited.device, l),
+        word: word_read(banks, waited.device, l),
         event: waited.event,
         device: waited.device,
     })

@@ -44,11 +44,6 @@ steps-waited-requires c =
 pub invariant_of-banks : goal.invariant_of-banks
 invariant_of-banks c =
     let r = (read_ready _ _ _ _ _ _ (sym (ap accepted_of c.in_ok-layout.ensures.verdict))).0 in
-    record { lengths = rw c.in_ok-layout.ensures.found.0 (r.lent.banks.0, r.lent.banks.1.0) }
-
-pub invariant_of-after : goal.invariant_of-after
-invariant_of-after c =
-    let r = (read_ready _ _ _ _ _ _ (sym (ap accepted_of c.in_ok-layout.ensures.verdict))).0 in
     record { lengths = rw c.in_ok-layout.ensures.found.0 (c.if-is_free.auto.one ∙ r.lent.banks.0, c.if-is_free.auto.two ∙ r.lent.banks.1.0) }
 
 pub word_read-requires : goal.word_read-requires

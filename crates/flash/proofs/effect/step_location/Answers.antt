@@ -3,15 +3,13 @@ use Rattle.std.proofs.Common.{arith, ap}
 use Rattle.map.specs.Windows.{Location}
 use Rattle.map.proofs.LocationLaws.{found}
 use Rattle.flash.proofs.EffectLaws.{target_fits, target_inside}
-use Rattle.flash.proofs.lent.Running.step_location.Goals as goal
+use Rattle.flash.proofs.effect.step_location.Goals as goal
 
 pub unwrap-target-requires : goal.unwrap-target-requires
 unwrap-target-requires c =
-    let r = c.args.self in
-    found _ _ (rw c.op-op.ensures at c.target.ensures) (target_inside r.banks.layout.geometry r.device r.runs (omega arith))
+    found _ _ (rw c.op-op.ensures at c.target.ensures) (target_inside c.args.layout.geometry c.args.d c.requires (omega arith))
 
 pub overflow_add-result : goal.overflow_add-result
 overflow_add-result c =
-    let r = c.args.self in
     let at = rw (c.unwrap-target.ensures, c.op-op.ensures) at c.target.ensures in
-    omega (arith, ap (λ (l : Location). l.offset) at, target_fits r.banks.layout.geometry r.device r.runs (omega arith))
+    omega (arith, ap (λ (l : Location). l.offset) at, target_fits c.args.layout.geometry c.args.d c.requires (omega arith))
