@@ -1,31 +1,46 @@
 -- The answers of a plan, by which of the two tests holds, and what they tell: the search stops at the first wait that fits.
 -- Assumes nothing.
 use mathlib.Core.Path.{◌≡◌, refl, sym, ap, ◌∙◌}
-use Rattle.std.specs.Prelude.{Some, None, Ok, Err}
-use Rattle.std.specs.Option.{ok_or}
+use Rattle.std.specs.Prelude.{Ok, Err}
 use mathlib.Core.Bool.{Bool, true, false}
 use mathlib.Core.List.{List}
 use mathlib.Core.Logic.{◌⊎◌, inl, inr}
-use Prim.Native.Nat.{ℕ, ◌<◌}
+use Prim.Native.Nat.{ℕ, ◌≤◌, ◌<◌}
 use native.Mathlib.Decide.{dec_lt}
 use native.Mathlib.Omega.{arith}
 use lib.Dec.{ltb}
-use borrow.Author.Tests.{ltb-true, ltb-false, lt-ltb}
-use Rattle.words.specs.Word.{pick}
+use lib.ListN.{length}
+use borrow.Author.Tests.{ltb-true, ltb-false, lt-ltb, le-ltb}
 use Rattle.words.specs.declared.decline.Decline.{Decline}
 use Rattle.words.specs.Decline.{number_of}
 use Rattle.words.proofs.BitLaws.{true_not_false}
-use Rattle.planner.specs.Windows.{week, window_count_of, in_range_of}
-use Rattle.planner.specs.Planner.{Planned, fits_of, least_wait_of, in_week, planned, planned_from, answer_of, plan_of}
+use Rattle.planner.specs.Windows.{week, window_count_of, windows_in_range_of, numbers_in_range_of, in_range_of}
+use Rattle.planner.specs.Planner.{Planned, fits_of, least_wait_of, planned, answer_of, plan_of}
 use Rattle.planner.specs.PlanLaws.{InRange, InOneWindow, Plans}
 use Rattle.words.proofs.FirstLaws.{first_below}
 use Rattle.planner.proofs.FitLaws.{fits_one, one_fits}
-use Rattle.planner.proofs.RangeLaws.{inside, facts, tested}
+use Rattle.planner.proofs.RangeLaws.{all_in, inside, facts, tested}
 
 module _ (minute duration : ℕ) (lent : List ℕ) where
   pub plan_out : in_range_of minute duration lent ≡ false → planned (Err Decline.Hours) 0 ≡ plan_of minute duration lent
   unfolding plan_of
   plan_out out = rw out
+
+  -- every window is judged, and the wait is the least by all
+  module _ (i wait : ℕ) (count : i ≤ window_count_of lent) (ended : window_count_of lent ≤ i)
+      (numbers : numbers_in_range_of minute duration (length lent) ≡ true) (windows : windows_in_range_of lent i ≡ true)
+      (least : wait ≡ least_wait_of minute duration lent i) where
+    pub plan_none : week ≤ wait → planned (Err Decline.NoWait) 0 ≡ plan_of minute duration lent
+    unfolding plan_of
+    plan_none l =
+        let every : i ≡ window_count_of lent = omega arith in
+        rw (all_in minute duration lent numbers (rw every at windows), ← every, ← least, le-ltb wait week l)
+
+    pub plan_found : wait < week → planned (Ok tt) wait ≡ plan_of minute duration lent
+    unfolding plan_of
+    plan_found l =
+        let every : i ≡ window_count_of lent = omega arith in
+        rw (all_in minute duration lent numbers (rw every at windows), ← every, ← least, lt-ltb wait week l)
 
 -- ---- back from the number of the answer to the tests
 
@@ -136,15 +151,3 @@ module _ (minute duration : ℕ) (lent : List ℕ) where
         only_then = only_then;
         beside = beside;
       }
-
--- ---- the answer by the option of the least wait
-
-pub plan_least : (minute duration : ℕ) (lent : List ℕ) → in_range_of minute duration lent ≡ true
-    → planned_from (ok_or (in_week (least_wait_of minute duration lent (window_count_of lent))) Decline.NoWait) ≡ plan_of minute duration lent
-unfolding plan_of
-plan_least minute duration lent range = rw range (go (ltb (least_wait_of minute duration lent (window_count_of lent)) week))
-  where
-    go : (t : Bool) → planned_from (ok_or (pick t (Some (least_wait_of minute duration lent (window_count_of lent))) None) Decline.NoWait)
-        ≡ pick t (planned (Ok tt) (least_wait_of minute duration lent (window_count_of lent))) (planned (Err Decline.NoWait) 0)
-    go true = refl
-    go false = refl

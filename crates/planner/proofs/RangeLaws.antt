@@ -48,7 +48,7 @@ window_range w h =
     (ltb-true _ _ first.0, leb-true _ _ second.1)
 
 module _ (minute duration : ℕ) (lent : List ℕ) where
-  all_in : numbers_in_range_of minute duration (length lent) ≡ true → windows_in_range_of lent (window_count_of lent) ≡ true
+  pub all_in : numbers_in_range_of minute duration (length lent) ≡ true → windows_in_range_of lent (window_count_of lent) ≡ true
       → in_range_of minute duration lent ≡ true
   unfolding in_range_of
   all_in numbers all = rw (numbers, all)

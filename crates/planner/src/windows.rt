@@ -5,7 +5,7 @@ ghost use Rattle.words.specs.Word.{first_from};
 ghost use Rattle.planner.specs.Planner.{fits_in_of, in_week};
 
 // The minutes of a week.
-const WEEK: u32 = 10080;
+pub const WEEK: u32 = 10080;
 
 const LONGEST_DURATION: u32 = 1440;
 
@@ -31,7 +31,7 @@ impl Window {
     }
 
     #[tactic(auto, unfolding(crate::specs::Windows::window_in_range_of))]
-    fn is_in_range(self) -> bool
+    pub fn is_in_range(self) -> bool
         ensures { result ≡ window_in_range_of self }
     {
         self.start < WEEK && 1 <= self.length && self.length <= WEEK

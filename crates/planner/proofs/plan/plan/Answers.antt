@@ -1,7 +1,8 @@
 -- Numbers out of range decide, and else the least wait by all windows.
 use Rattle.std.proofs.Common.{◌∙◌, sym}
 use Rattle.planner.proofs.RangeLaws.{facts}
-use Rattle.planner.proofs.PlanLaws.{plan_out, plan_least}
+use Rattle.planner.proofs.PlanLaws.{plan_out}
+use Rattle.planner.proofs.WeekLaws.{plan_least}
 use Rattle.planner.proofs.plan.plan.Goals as goal
 
 pub returns-then-not-in_range : goal.returns-then-not-in_range
