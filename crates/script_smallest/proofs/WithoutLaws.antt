@@ -28,13 +28,13 @@ module _ (x : List ℕ) (i : ℕ) (h : 8 * i ≤ length x) where
   front : length (take (8 * i) x) ≡ 8 * i
   front = length-take-le (8 * i) x h
 
-  without_length : length (without_of x i) ≡ 8 * i + (length x - (8 * i + 8))
+  pub without_length : length (without_of x i) ≡ 8 * i + (length x - (8 * i + 8))
   without_length = length-append (take (8 * i) x) (drop (8 * i + 8) x) ∙ rw (front, length-drop (8 * i + 8) x) refl
 
   byte_below : (j : ℕ) → j < 8 * i → get_or (without_of x i) j 0 ≡ get_or x j 0
   byte_below j l = get_or-append (take (8 * i) x) (drop (8 * i + 8) x) 0 j (omega (arith, front, l)) ∙ get_or-take (8 * i) x j 0 l
 
-  byte_above : (j : ℕ) → 8 * i ≤ j → get_or (without_of x i) j 0 ≡ get_or x (j + 8) 0
+  pub byte_above : (j : ℕ) → 8 * i ≤ j → get_or (without_of x i) j 0 ≡ get_or x (j + 8) 0
   byte_above j l =
       ap (λ (m : ℕ). get_or (without_of x i) m 0) (omega (arith, front, l))
       ∙ get_or-append-add (take (8 * i) x) (drop (8 * i + 8) x) (j - 8 * i) 0

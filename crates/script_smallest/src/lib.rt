@@ -21,6 +21,16 @@ const RECORD_BYTES: usize = 8;
 
 const MOST_RECORDS: usize = 64;
 
+// Sets a slice to the elements of another of its length. By a loop, as below: std's copies would have the archive for C ask for memmove.
+fn set_all<T: Copy>(to: &mut [T], from: &[T])
+    requires { length to.old ≡ length from.now }
+    ensures { to.new ≡ from.now }
+{
+    for i in 0..from.len() {
+        to[i] = from[i];
+    }
+}
+
 // Record k of a script without one of its records; without none where that one lies past the last.
 #[tactic(auto, using(crate::proofs::WithoutLaws::record_below, crate::proofs::WithoutLaws::record_above))]
 fn record_without(script: &[u8], removed: usize, k: usize) -> Record
@@ -35,13 +45,15 @@ fn record_without(script: &[u8], removed: usize, k: usize) -> Record
 }
 
 // Removes a record: those after it move down, and zeros follow.
+#[tactic(auto, using(crate::proofs::RemoveLaws::remove_next))]
 fn remove_record(script: &mut [u8], removed: usize)
     requires { 8 * removed + 8 ≤ length script.old }
     ensures { script.new ≡ without_of script.old removed ++ replicate 8 0 }
 {
-    let at = RECORD_BYTES * removed;
     let kept = script.len() - RECORD_BYTES;
-    script.copy_within(at + RECORD_BYTES.., at);
+    for k in RECORD_BYTES * removed..kept {
+        script[k] = script[k + RECORD_BYTES];
+    }
     script[kept..].fill(0);
 }
 
@@ -64,8 +76,8 @@ impl Trial<'_> {
         ensures scratch1_after { scratch1.new ≡ self.now.one.now }
         ensures scratch2_after { scratch2.new ≡ self.now.two.now }
     {
-        scratch1.copy_from_slice(self.one);
-        scratch2.copy_from_slice(self.two);
+        set_all(scratch1, self.one);
+        set_all(scratch2, self.two);
     }
 
     // Whether a play on two banks of the first `count` records of a script without one of them gives the number.
@@ -197,7 +209,7 @@ impl Trial<'_> {
         if !self.shows_without(scratch1, scratch2, script, n, n) {
             return Err(Decline::NotShown);
         }
-        res.copy_from_slice(script);
+        set_all(res, script);
         Ok(self.drop_records(scratch1, scratch2, res) as u32)
     }
 }

@@ -14,4 +14,4 @@ returns c =
     let a = c.args in
     let d = c.drop_records.ensures in
     found a.self.now.g a.self.now.sram.now (lent a.self.now.device a.self.now.one a.self.now.two) a.self.now.number a.script.now a.res.now _
-    c.shows_without.ensures c.requires.script_len c.if-not-shows_without.false _ _ _ c.copy_from_slice.ensures.after d.value d.script_after
+    c.shows_without.ensures c.requires.script_len c.if-not-shows_without.false _ _ _ c.set_all.ensures d.value d.script_after
