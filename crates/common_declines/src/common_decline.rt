@@ -11,15 +11,24 @@ use geometry::layout::Layout;
 use geometry::lent::{Lent, lent_decline};
 use words::decline::Decline;
 
-// Which of declines 1, 2 and 3 applies; an SRAM of length 0 where none is lent.
+// The verdict by declines 1, 2 and 3. Handed on without the layout, it is answered in a register.
 #[tactic(auto, unfolding(crate::specs::CommonDecline::common_decline_of))]
-pub fn common_decline(g: Geometry, d: Device, lent: Lent, sram: usize) -> Result<Layout, Decline>
-    ensures verdict { verdict_from result ≡ common_decline_of g d (lengths_of lent) sram }
-    ensures layout { IfOk result (λ layout. layout.geometry ≡ g) }
+fn common_verdict(g: Geometry, d: Device, lent: Lent, sram: usize) -> Result<(), Decline>
+    ensures { result ≡ common_decline_of g d (lengths_of lent) sram }
 {
     let layout = lent_decline(g, lent, sram)?;
     if !is_possible(layout, d) {
         return Err(Decline::Device);
     }
-    Ok(layout)
+    Ok(())
+}
+
+// Which of declines 1, 2 and 3 applies; an SRAM of length 0 where none is lent.
+#[inline(always)]
+pub fn common_decline(g: Geometry, d: Device, lent: Lent, sram: usize) -> Result<Layout, Decline>
+    ensures verdict { verdict_from result ≡ common_decline_of g d (lengths_of lent) sram }
+    ensures layout { IfOk result (λ layout. layout.geometry ≡ g) }
+{
+    common_verdict(g, d, lent, sram)?;
+    Ok(Layout { geometry: g })
 }

@@ -80,6 +80,7 @@ impl Running<'_> {
     }
 
     // A step that is not declined: one quad, ascending.
+    #[inline(always)]
     pub fn step_effect(self, sram: &[u32]) -> StepEffect
         ensures { step_effect_from result
             ≡ step_effect_of self.entry.banks.layout.geometry (lent self.entry.device self.entry.banks.one self.entry.banks.two) sram.now }
@@ -93,6 +94,7 @@ impl Running<'_> {
 }
 
 // A step that is not declined, with its write. No call of the device: its callers judge the declines first.
+#[inline(always)]
 #[tactic(auto, unfolding(crate::specs::Step::step_of))]
 pub fn step_accepted(
     layout: Layout,

@@ -1,4 +1,4 @@
-// One call for a row of signs, its records by value.
+// One call for a row of signs, lent to be read.
 // What asks for a sound row or queue in this crate is no call of the row: schedule_row judges 1, 2 and 19 first.
 #![tactic(auto)]
 

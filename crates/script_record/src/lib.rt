@@ -16,6 +16,7 @@ use script_format::Record;
 use words::decline::Decline;
 
 // Plays one record.
+#[inline(always)]
 #[tactic(auto, unfolding(crate::specs::Record::record_after_of))]
 pub fn play_record(
     g: Geometry,
