@@ -1,5 +1,5 @@
 // The signs that are updated, and their words.
-ghost use Rattle.std.specs.Prelude.{◌≡◌, ◌<◌, IfOk, vec_len};
+ghost use Rattle.std.specs.Prelude.{◌≡◌, ◌<◌, ◌≤◌, IfOk, vec_len};
 
 use crate::state::{Bank, State};
 use device::builders::power_on;
@@ -20,7 +20,9 @@ pub struct Sign {
 }
 
 // Q=B=P=1.
-fn small(old: Bank, own: u32, other: u32) -> Sign {
+fn small(old: Bank, own: u32, other: u32) -> Sign
+    ensures { (result.words ≤ 192) × (result.sequence < result.words) }
+{
     Sign {
         geometry: Geometry { q: 1, b: 1, p: 1 },
         words: 64,
@@ -32,7 +34,9 @@ fn small(old: Bank, own: u32, other: u32) -> Sign {
 }
 
 // Q=2, B=2, P=1.
-fn larger(old: Bank, own: u32, other: u32) -> Sign {
+fn larger(old: Bank, own: u32, other: u32) -> Sign
+    ensures { (result.words ≤ 192) × (result.sequence < result.words) }
+{
     Sign {
         geometry: Geometry { q: 2, b: 2, p: 1 },
         words: 192,

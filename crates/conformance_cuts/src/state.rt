@@ -114,12 +114,26 @@ impl State {
 
     // The turn of the place that an update has reached; one that is declined leaves it.
     fn advance(&mut self, image: &[u32], progress: Progress) -> Progress {
-        match self.turn(image, progress.place) {
-            Ok(outcome) => Progress {
-                place: outcome.place,
-                events: progress.events.wrapping_add(u32::from(outcome.event)),
-                is_done: outcome.done,
-            },
+        let g = self.geometry;
+        let place = progress.place;
+        // not by `turn` above: this runs millions of times, and each move of an outcome counts
+        match turn(
+            g,
+            self.device,
+            &mut self.one,
+            &mut self.two,
+            image,
+            &[],
+            place,
+        ) {
+            Ok(outcome) => {
+                self.device = outcome.device;
+                Progress {
+                    place: outcome.place,
+                    events: progress.events.wrapping_add(u32::from(outcome.event)),
+                    is_done: outcome.done,
+                }
+            }
             Err(_) => progress,
         }
     }

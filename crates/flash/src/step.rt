@@ -113,6 +113,7 @@ pub fn step_accepted(
 }
 
 // One step of the running operation.
+#[inline(always)]
 #[tactic(auto, unfolding(crate::specs::Step::step_of))]
 pub fn step(
     g: Geometry,

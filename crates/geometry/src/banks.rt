@@ -28,7 +28,11 @@ fn is_listed(q: u32) -> bool
 pub fn in_range(g: Geometry) -> bool
     ensures { result ≡ in_range_of g }
 {
-    is_listed(g.q) && 1 <= g.b && g.b <= MOST_BOOT_PAGES && 1 <= g.p && g.p <= MOST_PROGRAM_PAGES
+    is_listed(g.q)
+        & (1 <= g.b)
+        & (g.b <= MOST_BOOT_PAGES)
+        & (1 <= g.p)
+        & (g.p <= MOST_PROGRAM_PAGES)
 }
 
 // An address rounded down to a multiple of a unit, which is not 0.

@@ -86,6 +86,7 @@ fn applied(d: Device, number: u32, w: u32) -> Device
 }
 
 // A store that is not declined. No call of the device: its callers judge the declines first.
+#[inline(always)]
 #[tactic(auto, unfolding(crate::specs::Store::store_accepted_of))]
 pub fn store_accepted(layout: Layout, d: Device, number: u32, form: u32, value: u32) -> Outcome
     ensures { accepted result.device result.event ≡ store_accepted_of layout.geometry d number form value }
@@ -106,6 +107,7 @@ pub fn store_accepted(layout: Layout, d: Device, number: u32, form: u32, value: 
 }
 
 // A store of a form and a value to a register.
+#[inline(always)]
 #[tactic(auto, unfolding(crate::specs::Store::store_of))]
 pub fn store(g: Geometry, d: Device, number: u32, form: u32, value: u32) -> Result<Outcome, Decline>
     ensures { answer_from d result ≡ store_of g d number form value }

@@ -58,6 +58,7 @@ fn swapped(g: Geometry, d: Device) -> Device
 }
 
 // The whole start-up.
+#[inline(always)]
 #[tactic(auto, unfolding(crate::specs::StartUp::start_up_of, crate::specs::StartUp::start_up_stores))]
 pub fn start_up(g: Geometry, d: Device) -> Result<Device, Decline>
     ensures { started_up_from d result ≡ start_up_of g d }

@@ -138,7 +138,12 @@ pub fn turn(
     ensures { turn_leaves (turned_from d place result) one.new two.new
         ≡ turn_of g (state d one.old two.old) image.now sram.now place }
 {
-    let change = turn_effect(g, d, one, two, image, sram, place)?;
-    apply(one, two, change.write);
-    Ok(change.outcome)
+    // a match, since `?` would move the whole change once more
+    match turn_effect(g, d, one, two, image, sram, place) {
+        Ok(change) => {
+            apply(one, two, change.write);
+            Ok(change.outcome)
+        }
+        Err(decline) => Err(decline),
+    }
 }
