@@ -1,30 +1,53 @@
 -- Bytes written one after another: a number's blanks and its digits, the columns of a line.
 -- Assumes nothing.
-use mathlib.Core.Path.{◌≡◌}
-use mathlib.Core.List.{List, ◌++◌}
-use Prim.Native.Nat.{ℕ, ◌+◌, ◌-◌, ◌≤◌, ◌<◌}
+use mathlib.Core.Path.{◌≡◌, refl, ap}
+use mathlib.Core.List.{List, [], ◌∷◌, ◌++◌}
+use Prim.Native.Nat.{ℕ, suc, ◌+◌, ◌-◌, ◌≤◌, ◌<◌}
 use native.Mathlib.Omega.{arith}
 use borrow.Rule.Slice.PartMut.{put_mid}
-use lib.ListN.{length, replicate, length-replicate}
-use lib.Seq.{sets}
+use lib.ListN.{length, set, replicate, length-append, length-replicate}
+use lib.Seq.{sets, set_comm}
 use Rattle.std.proofs.Common.{append_assoc}
+use Rattle.std.proofs.lemmas.List.{set-set, replicate-append-replicate}
 use Rattle.words.proofs.PartLaws.{put_part}
 use Rattle.text.specs.Digits.{width_of}
 use Rattle.text.specs.Lines.{blank, line_feed, flag_of, decimal_of}
+use Rattle.text.proofs.DigitLaws.{digits_length}
 use Rattle.text.proofs.BufferLaws.{sets_after}
 use Rattle.sheet_page.specs.declared.PageState.{PageState}
 use Rattle.sheet_line.specs.Line.{right_column_of, letter_of, bank_number_of, kind_letter_of, side_letter_of, line_of}
 use Rattle.sheet_line.proofs.WidthLaws.{page_width, bank_width, flag_width, right_column_length}
 
--- the blanks, and then the number and the byte after it
+-- a byte before a run of bytes may come first
+sets_before : (xs : List ℕ) (at : ℕ) (cs : List ℕ) (j b : ℕ) → j < at → set (sets xs at cs) j b ≡ sets (set xs j b) at cs
+sets_before xs at [] j b before = refl
+sets_before xs at (a ∷ cs) j b before =
+    rw (set_comm xs j at b a (λ e. omega arith)) (sets_before (set xs at a) (suc at) cs j b (omega arith))
+
+-- of bytes that others are written over nothing is left
+sets_over : (xs : List ℕ) (at : ℕ) (cs bs : List ℕ) → length cs ≤ length bs → sets (sets xs at cs) at bs ≡ sets xs at bs
+sets_over xs at [] bs l = refl
+sets_over xs at (a ∷ cs) [] l = absurd (omega arith)
+sets_over xs at (a ∷ cs) (b ∷ bs) l =
+    rw (sets_before (set xs at a) (suc at) cs at b (omega arith), set-set xs at a b) (sets_over (set xs at b) (suc at) cs bs (omega arith))
+
+-- blanks in all the columns, and then the number, over the last of them, and the byte after it
 pub put-right-column : (out : List ℕ) (at columns n end padding : ℕ) → width_of n ≤ columns → at + columns + 1 ≤ length out → padding ≡ columns - width_of n
-    → sets (put_mid at (at + padding - at) out (replicate padding blank)) (at + padding) (decimal_of n end) ≡ sets out at (right_column_of columns n end)
+    → sets (put_mid at (at + columns - at) out (replicate columns blank)) (at + padding) (decimal_of n end) ≡ sets out at (right_column_of columns n end)
 put-right-column out at columns n end padding l room e =
     let blanks = replicate padding blank in
+    let under = replicate (width_of n) blank in
     let long : length blanks ≡ padding = length-replicate padding blank in
-    let part = put_part out blanks at (at + padding - at) (omega (arith, long)) (omega arith) in
+    let all : replicate columns blank ≡ blanks ++ under =
+    rw (replicate-append-replicate padding (width_of n) blank) (ap (λ (m : ℕ). replicate m blank) (omega arith)) in
+    let part = put_part out (replicate columns blank) at (at + columns - at) (omega (arith, length-replicate columns blank)) (omega arith) in
+    let covered : length under ≤ length (decimal_of n end) =
+    simp (length-append, length-replicate, digits_length) (omega arith) in
     rw (
       part,
+      all,
+      sets_after out at (at + padding) blanks under (omega (arith, long)),
+      sets_over (sets out at blanks) (at + padding) under (decimal_of n end) covered,
       ← sets_after out at (at + padding) blanks (decimal_of n end) (omega (arith, long)),
       e,
       append_assoc,

@@ -17,8 +17,9 @@ fn put_right_column(out: &mut [u8], at: usize, columns: usize, number: usize, en
     requires columns_in_bounds { at + columns + 1 ≤ length out.old }
     ensures { out.new ≡ sets out.old at (right_column_of columns number end) }
 {
+    // Blanks in all the columns, since each caller gives a fixed number of these: so many are stored at once, with no call.
+    out[at..at + columns].fill(BLANK);
     let padding = columns - width(number);
-    out[at..at + padding].fill(BLANK);
     put_decimal(out, at + padding, number, end);
 }
 

@@ -4,6 +4,7 @@ use mathlib.Core.Bool.{Bool, true, false}
 use mathlib.Core.List.{List}
 use Prim.Native.Nat.{ℕ, zero, suc, ◌+◌, ◌*◌, ◌≤◌, ◌<◌}
 use native.Mathlib.Omega.{arith}
+use mir.Val.{bool_byte}
 use Rattle.words.specs.Quad.{quad_at, is_blank_of}
 use Rattle.words.proofs.PickLaws.{pick_both}
 use Rattle.geometry.specs.declared.banks.Geometry.{Geometry}
@@ -18,6 +19,11 @@ index_in_bank g false page l = omega arith
 pub quads_in_bank : (g : Geometry) → InRange g → (program : Bool) (page : ℕ) → page < kind_pages_of g program
     → 4 * (page_index_of g program page * page_quads_of g + page_quads_of g) ≤ bank_words_of g
 quads_in_bank g ok program page l = omega (arith, page_in_bank_lem g ok (page_index_of g program page) (index_in_bank g program page l))
+
+-- a test, as a number, counts for 1 at most
+pub test_one : (t : Bool) → bool_byte t ≤ 1
+test_one true = omega arith
+test_one false = omega arith
 
 -- a quad counts for 1 at most, and so many quads for so many
 used_one : (quad : List ℕ) → used_of quad ≤ 1

@@ -1,18 +1,14 @@
 -- The count of the quads that are not blank is the length of their list: a quad that is blank leaves both as they are. Assumes nothing.
-use mathlib.Core.Path.{◌≡◌, refl, ap, ◌∙◌}
-use mathlib.Core.Bool.{Bool, true, false, not}
+use mathlib.Core.Path.{◌≡◌, refl}
+use mathlib.Core.Bool.{Bool, true, false}
 use mathlib.Core.List.{List, [], ◌∷◌, ◌++◌}
 use Prim.Native.Nat.{ℕ, zero, suc, ◌+◌}
 use native.Mathlib.Omega.{arith}
 use lib.ListN.{length, length-append}
-use Rattle.std.specs.List.{filter, range_with_len}
-use Rattle.std.proofs.lemmas.List.Elements.{filter-append}
-use Rattle.words.specs.Word.{pick}
 use Rattle.words.specs.Lists.{Ascending}
 use Rattle.words.specs.Quad.{quad_at, is_blank_of}
 use Rattle.words.proofs.AscendingLaws.{ascending_none, ascending_stays, ascending_more}
-use Rattle.words.proofs.RangeLaws.{range_last}
-use Rattle.sheet_page.specs.State.{used_of, used_quads_of}
+use Rattle.sheet_page.specs.State.{used_quads_of}
 
 -- those of n quads of which P holds, as many as the sheet counts
 pub record Listed (P : ℕ → Type 0) (bank : List ℕ) (first n : ℕ) : Type 0 where
@@ -34,23 +30,3 @@ listed P bank first used blank (suc n) = go (is_blank_of (quad_at bank (first + 
           each = ascending_more P n l.quads l.each (used n e);
           count = rw e (omega (arith, length-append l.quads (n ∷ []), l.count));
         }
-
--- ---- and the count of those of a range
-
-one_used : (bank : List ℕ) (i : ℕ) → length (filter (λ (j : ℕ). not (is_blank_of (quad_at bank j))) (i ∷ [])) ≡ used_of (quad_at bank i)
-one_used bank i = go (is_blank_of (quad_at bank i))
-  where
-    go : (t : Bool) → length (filter (λ (j : ℕ). not t) (i ∷ [])) ≡ pick t 0 1
-    go true = refl
-    go false = refl
-
-pub used-filter : (bank : List ℕ) (first n : ℕ)
-    → length (filter (λ (i : ℕ). not (is_blank_of (quad_at bank i))) (range_with_len first n)) ≡ used_quads_of bank first n
-used-filter bank first zero = refl
-used-filter bank first (suc n) =
-    let test = λ (i : ℕ). not (is_blank_of (quad_at bank i)) in
-    let before = filter test (range_with_len first n) in
-    ap (λ (l : List ℕ). length (filter test l)) (range_last first n)
-    ∙ ap length (filter-append test (range_with_len first n) ((first + n) ∷ []))
-    ∙ length-append before (filter test ((first + n) ∷ []))
-    ∙ rw (used-filter bank first n, one_used bank (first + n))

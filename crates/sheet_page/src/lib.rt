@@ -42,9 +42,12 @@ fn used_quads(bank: &[u32], first: usize, count: usize) -> usize
     requires { 4 * (first + count) ≤ length bank.now }
     ensures { result ≡ used_quads_of bank.now first count }
 {
-    (first..first + count)
-        .filter(|&i| !is_blank(quad_at(bank, i)))
-        .count()
+    // A sum, and no filter: every quad then takes the same steps, blank or not.
+    let mut quads = 0;
+    for i in 0..count {
+        quads += usize::from(!is_blank(quad_at(bank, first + i)));
+    }
+    quads
 }
 
 // The swap bit of a kind of pages.
