@@ -28,6 +28,7 @@ fn start_up_decline(g: Geometry, d: Device) -> Result<(), Decline>
 }
 
 // The device after a store; a store that is declined leaves it.
+#[inline(always)]
 fn stored(g: Geometry, d: Device, number: u32, form: u32, value: u32) -> Device
     ensures { result ≡ (store_of g d number form value).device }
 {
@@ -58,7 +59,6 @@ fn swapped(g: Geometry, d: Device) -> Device
 }
 
 // The whole start-up.
-#[inline(always)]
 #[tactic(auto, unfolding(crate::specs::StartUp::start_up_of, crate::specs::StartUp::start_up_stores))]
 pub fn start_up(g: Geometry, d: Device) -> Result<Device, Decline>
     ensures { started_up_from d result ≡ start_up_of g d }
