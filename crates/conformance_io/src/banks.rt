@@ -1,6 +1,7 @@
 // Both banks, and what a call changed in them.
-ghost use Rattle.std.specs.Prelude.{◌≡◌, ◌++◌, OnOk, IfOk};
+ghost use Rattle.std.specs.Prelude.{◌≡◌, ◌++◌, [], ◌∷◌, Some, OnOk, IfOk};
 ghost use Rattle.conformance_io.specs.Changes.{changes_from};
+ghost use Rattle.conformance_io.specs.Text.{numbers_text, changes_text};
 
 use std::alloc::{AllocError, Global};
 use std::fmt;
@@ -14,6 +15,8 @@ pub struct Change {
 }
 
 impl fmt::Display for Change {
+    ghost output = { λ change. Some (numbers_text (change.bank ∷ change.index ∷ change.word ∷ [])) };
+
     fn fmt<W: fmt::Write>(&self, f: &mut fmt::Formatter<W>) -> fmt::Result {
         write!(f, "{} {} {}", self.bank, self.index, self.word)
     }
@@ -24,6 +27,8 @@ impl fmt::Display for Change {
 pub struct Changes(pub Vec<Change>);
 
 impl fmt::Display for Changes {
+    ghost output = { λ changes. Some (changes_text changes.0.items) };
+
     fn fmt<W: fmt::Write>(&self, f: &mut fmt::Formatter<W>) -> fmt::Result {
         write!(f, "{}", self.0.len())?;
         for change in &self.0 {

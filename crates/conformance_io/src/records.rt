@@ -1,6 +1,7 @@
 // The geometry and the device as numbers of a case.
-ghost use Rattle.std.specs.Prelude.{◌≡◌};
+ghost use Rattle.std.specs.Prelude.{◌≡◌, Some};
 ghost use Rattle.conformance_io.specs.Records.{geometry_of, device_of};
+ghost use Rattle.conformance_io.specs.Text.{numbers_text};
 
 use device::record::{Device, Operands};
 use device::registers::{Nvmbwp, Nvmcon, Nvmcon2, Nvmpwp};
@@ -97,6 +98,8 @@ impl From<Device> for DeviceNumbers {
 
 // Prints the numbers with one blank between two.
 impl fmt::Display for DeviceNumbers {
+    ghost output = { λ numbers. Some (numbers_text numbers.0) };
+
     fn fmt<W: fmt::Write>(&self, f: &mut fmt::Formatter<W>) -> fmt::Result {
         let numbers = &self.0;
         write!(f, "{}", numbers[0])?;
