@@ -1,8 +1,10 @@
-// What is printed for a line.
+// What is written for a line.
 use conformance_calls::names::outcome;
+use conformance_io::outcome::Outcome;
 use conformance_lists::line::Line;
 use conformance_lists::no_outcome::NoOutcome;
 use std::alloc::{AllocError, Global};
+use std::io::Write;
 
 // The inputs of a line stand before a bar, and before one blank at the end.
 fn inputs(line: &[u8]) -> Result<&str, NoOutcome> {
@@ -11,15 +13,16 @@ fn inputs(line: &[u8]) -> Result<&str, NoOutcome> {
     Ok(text.strip_suffix(' ').unwrap_or(text))
 }
 
-fn outcome_of(alloc: Global, line: &[u8]) -> Result<String, NoOutcome> {
+fn outcome_of(alloc: Global, line: &[u8]) -> Result<Outcome, NoOutcome> {
     outcome(&mut Line::of(alloc, inputs(line)?))
 }
 
-/// What the call of a line gives, the number of its decline, or a question mark where the line is no case.
-pub fn answer(alloc: Global, line: &[u8]) -> Result<String, AllocError> {
-    match outcome_of(alloc, line) {
-        Ok(text) => Ok(text),
-        Err(NoOutcome::OutOfMemory) => Err(AllocError),
-        Err(why) => format!(in alloc; "{why}"),
-    }
+/// Writes what the call of a line gives, the number of its decline, or a question mark where the line is no case.
+pub fn put_answer(out: &mut impl Write, alloc: Global, line: &[u8]) -> Result<(), AllocError> {
+    let _ = match outcome_of(alloc, line) {
+        Ok(outcome) => writeln!(out, "{outcome}"),
+        Err(NoOutcome::OutOfMemory) => return Err(AllocError),
+        Err(why) => writeln!(out, "{why}"),
+    };
+    Ok(())
 }

@@ -4,36 +4,47 @@
 
 mod answers;
 
-use answers::answer;
+use answers::put_answer;
 use std::io;
-use std::io::{BufRead, BufReader, Read};
+use std::io::{BufRead, BufReader, BufWriter, Read, Write};
 
 // The longest line that can be a case, with its line feed.
 const LONGEST_LINE: usize = 1048576;
 
 // The last line may lack its line feed.
-fn answer_all(rt: &(impl Input + Print + AllocGlobal)) -> io::Result<()> {
+fn answer_lines(rt: &(impl Input + AllocGlobal), out: &mut impl Write) -> io::Result<()> {
     let mut reader = BufReader::new(rt.alloc(), rt.reader())?;
     let mut line = Vec::with_capacity(rt.alloc(), LONGEST_LINE)?;
     for _ in 0..u64::MAX {
+        // The answers are out before a read that may wait for who reads them.
+        if !reader.buffer().contains(&b'\n') {
+            let _ = out.flush();
+        }
         line.clear();
         let _ = reader
             .by_ref()
             .take(LONGEST_LINE as u64)
             .read_until(b'\n', &mut line);
         if let Some(text) = line.strip_suffix(b"\n") {
-            let _ = rt.println(answer(rt.alloc(), text)?);
+            put_answer(out, rt.alloc(), text)?;
         } else if line.is_empty() {
             break;
         } else if line.len() < LONGEST_LINE {
-            let _ = rt.println(answer(rt.alloc(), &line)?);
+            put_answer(out, rt.alloc(), &line)?;
             break;
         } else {
-            let _ = rt.println("?");
+            let _ = writeln!(out, "?");
             let _ = reader.skip_until(b'\n');
         }
     }
     Ok(())
+}
+
+fn answer_all(rt: &(impl Input + Print + AllocGlobal)) -> io::Result<()> {
+    let mut out = BufWriter::new(rt.alloc(), io::writer(rt))?;
+    let answered = answer_lines(rt, &mut out);
+    let _ = out.flush();
+    answered
 }
 
 fn main(rt: HostRuntime) -> io::Result<()> {

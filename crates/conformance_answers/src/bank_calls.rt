@@ -1,7 +1,11 @@
 // The calls that only read lent banks.
+ghost use Rattle.std.specs.Prelude.{IfOk};
+ghost use Rattle.conformance_io.specs.Outcome.{IsOutcome};
+
 use bank_parts::{lower_bank, lower_bank_decline, page, page_decline};
 use conformance_cases::{banks, geometry, list, sign};
 use conformance_io::banks::Banks;
+use conformance_io::outcome::Outcome;
 use conformance_lists::line::Line;
 use conformance_lists::no_outcome::NoOutcome;
 use device::registers::Nvmcon;
@@ -21,7 +25,9 @@ fn bank_number(part: &[u32], banks: &Banks, is_swapped: bool) -> Option<u32> {
     }
 }
 
-pub fn lower_bank_outcome(line: &mut Line) -> Result<String, NoOutcome> {
+pub fn lower_bank_outcome(line: &mut Line) -> Result<Outcome, NoOutcome>
+    ensures { IfOk result (λ outcome. IsOutcome outcome) }
+{
     let (g, d) = sign(line)?;
     let banks = banks(line)?;
     line.end()?;
@@ -29,11 +35,13 @@ pub fn lower_bank_outcome(line: &mut Line) -> Result<String, NoOutcome> {
     let part = lower_bank(g, d, &banks.one, &banks.two);
     let is_swapped = has(d.nvmcon.0, Nvmcon::BFSWAP);
     let number = bank_number(part, &banks, is_swapped).ok_or(NoOutcome::NoCase)?;
-    Ok(format!(in line.alloc(); "0 {number}")?)
+    Ok(format!(in line.alloc(); "0 {number}")?.into())
 }
 
 // A page is told by where it starts in the bank, and its length.
-pub fn page_outcome(line: &mut Line) -> Result<String, NoOutcome> {
+pub fn page_outcome(line: &mut Line) -> Result<Outcome, NoOutcome>
+    ensures { IfOk result (λ outcome. IsOutcome outcome) }
+{
     let g = geometry(line)?;
     let bank = list(line)?;
     let number = line.number()?;
@@ -46,5 +54,5 @@ pub fn page_outcome(line: &mut Line) -> Result<String, NoOutcome> {
         return Err(NoOutcome::NoCase);
     }
     let count = part.len();
-    Ok(format!(in line.alloc(); "0 {start} {count}")?)
+    Ok(format!(in line.alloc(); "0 {start} {count}")?.into())
 }

@@ -1,10 +1,12 @@
 // The calls that lend no list: the comparison and the calls on the device alone.
-ghost use Rattle.std.specs.Prelude.{◌≤◌, eqb, IfErr, IfSome};
+ghost use Rattle.std.specs.Prelude.{◌≤◌, eqb, IfErr, IfOk, IfSome};
+ghost use Rattle.conformance_io.specs.Outcome.{IsOutcome};
 ghost use Rattle.conformance_lists.specs.NoOutcome.{IsUndeclined};
 ghost use Rattle.words.specs.Word.{pick};
 
 use common_declines::possible::is_possible;
 use conformance_cases::sign;
+use conformance_io::outcome::Outcome;
 use conformance_io::records::DeviceNumbers;
 use conformance_lists::line::Line;
 use conformance_lists::no_outcome::NoOutcome;
@@ -15,23 +17,29 @@ use register_access::{register_read, store};
 use sequence::comparison::compare;
 use start_up::start_up;
 
-pub fn compare_outcome(line: &mut Line) -> Result<String, NoOutcome>
-    ensures { IfErr result IsUndeclined }
+pub fn compare_outcome(line: &mut Line) -> Result<Outcome, NoOutcome>
+    ensures outcome { IfOk result (λ outcome. IsOutcome outcome) }
+    ensures err { IfErr result IsUndeclined }
 {
     let [first, second] = line.numbers::<2>()?;
     line.end()?;
-    let bank = if compare(first, second).second { 2 } else { 1 };
-    Ok(format!(in line.alloc(); "{bank}")?)
+    let bank = if compare(first, second).second {
+        2u8
+    } else {
+        1
+    };
+    Ok(format!(in line.alloc(); "{bank}")?.into())
 }
 
-pub fn possible_outcome(line: &mut Line) -> Result<String, NoOutcome>
-    ensures { IfErr result IsUndeclined }
+pub fn possible_outcome(line: &mut Line) -> Result<Outcome, NoOutcome>
+    ensures outcome { IfOk result (λ outcome. IsOutcome outcome) }
+    ensures err { IfErr result IsUndeclined }
 {
     let (g, d) = sign(line)?;
     line.end()?;
     let layout = Layout::of(g).ok_or(NoOutcome::NoCase)?;
     let is_so = u8::from(is_possible(layout, d));
-    Ok(format!(in line.alloc(); "{is_so}")?)
+    Ok(format!(in line.alloc(); "{is_so}")?.into())
 }
 
 // The pages of a kind, 0 for boot and 1 for program.
@@ -45,8 +53,9 @@ fn pages_of(g: Geometry, kind: u32) -> Option<u32>
     }
 }
 
-pub fn protected_outcome(line: &mut Line) -> Result<String, NoOutcome>
-    ensures { IfErr result IsUndeclined }
+pub fn protected_outcome(line: &mut Line) -> Result<Outcome, NoOutcome>
+    ensures outcome { IfOk result (λ outcome. IsOutcome outcome) }
+    ensures err { IfErr result IsUndeclined }
 {
     let (g, d) = sign(line)?;
     let [kind, side, page] = line.numbers::<3>()?;
@@ -57,32 +66,38 @@ pub fn protected_outcome(line: &mut Line) -> Result<String, NoOutcome>
         return Err(NoOutcome::NoCase);
     }
     let is_so = u8::from(is_protected(layout, d, kind == 1, side == 1, page));
-    Ok(format!(in line.alloc(); "{is_so}")?)
+    Ok(format!(in line.alloc(); "{is_so}")?.into())
 }
 
-pub fn store_outcome(line: &mut Line) -> Result<String, NoOutcome> {
+pub fn store_outcome(line: &mut Line) -> Result<Outcome, NoOutcome>
+    ensures { IfOk result (λ outcome. IsOutcome outcome) }
+{
     let (g, d) = sign(line)?;
     let [number, form, value] = line.numbers::<3>()?;
     line.end()?;
     let given = store(g, d, number, form, value)?;
     let device = DeviceNumbers::from(given.device);
     let event = u8::from(given.event);
-    Ok(format!(in line.alloc(); "0 {device} {event}")?)
+    Ok(format!(in line.alloc(); "0 {device} {event}")?.into())
 }
 
-pub fn register_read_outcome(line: &mut Line) -> Result<String, NoOutcome> {
+pub fn register_read_outcome(line: &mut Line) -> Result<Outcome, NoOutcome>
+    ensures { IfOk result (λ outcome. IsOutcome outcome) }
+{
     let (g, d) = sign(line)?;
     let number = line.number()?;
     line.end()?;
     let given = register_read(g, d, number)?;
     let value = given.value;
     let device = DeviceNumbers::from(given.device);
-    Ok(format!(in line.alloc(); "0 {value} {device}")?)
+    Ok(format!(in line.alloc(); "0 {value} {device}")?.into())
 }
 
-pub fn start_up_outcome(line: &mut Line) -> Result<String, NoOutcome> {
+pub fn start_up_outcome(line: &mut Line) -> Result<Outcome, NoOutcome>
+    ensures { IfOk result (λ outcome. IsOutcome outcome) }
+{
     let (g, d) = sign(line)?;
     line.end()?;
     let device = DeviceNumbers::from(start_up(g, d)?);
-    Ok(format!(in line.alloc(); "0 {device}")?)
+    Ok(format!(in line.alloc(); "0 {device}")?.into())
 }

@@ -1,4 +1,6 @@
 // The calls by their names, and what each gives.
+ghost use Rattle.std.specs.Prelude.{IfOk};
+ghost use Rattle.conformance_io.specs.Outcome.{IsOutcome};
 ghost use Rattle.conformance_calls.specs.Names.{Named};
 
 use conformance_answers::bank_calls::{lower_bank_outcome, page_outcome};
@@ -8,6 +10,7 @@ use conformance_answers::device_calls::{
     store_outcome,
 };
 use conformance_answers::update_calls::{turn_outcome, update_start_outcome};
+use conformance_io::outcome::Outcome;
 use conformance_lists::line::Line;
 use conformance_lists::no_outcome::NoOutcome;
 
@@ -29,29 +32,31 @@ pub enum Call {
 }
 
 impl Call {
-    pub fn of(name: &str) -> Option<Call>
+    pub fn of(name: &[u8]) -> Option<Call>
         ensures { Named name.now result }
     {
         match name {
-            "compare" => Some(Call::Compare),
-            "possible" => Some(Call::Possible),
-            "protected" => Some(Call::Protected),
-            "store" => Some(Call::Store),
-            "register_read" => Some(Call::RegisterRead),
-            "flash_read" => Some(Call::FlashRead),
-            "lower_bank" => Some(Call::LowerBank),
-            "page" => Some(Call::Page),
-            "step" => Some(Call::Step),
-            "reset" => Some(Call::Reset),
-            "startup" => Some(Call::StartUp),
-            "update_start" => Some(Call::UpdateStart),
-            "turn" => Some(Call::Turn),
+            b"compare" => Some(Call::Compare),
+            b"possible" => Some(Call::Possible),
+            b"protected" => Some(Call::Protected),
+            b"store" => Some(Call::Store),
+            b"register_read" => Some(Call::RegisterRead),
+            b"flash_read" => Some(Call::FlashRead),
+            b"lower_bank" => Some(Call::LowerBank),
+            b"page" => Some(Call::Page),
+            b"step" => Some(Call::Step),
+            b"reset" => Some(Call::Reset),
+            b"startup" => Some(Call::StartUp),
+            b"update_start" => Some(Call::UpdateStart),
+            b"turn" => Some(Call::Turn),
             _ => None,
         }
     }
 
     /// What the call gives for the inputs that are left in a line.
-    pub fn outcome(self, line: &mut Line) -> Result<String, NoOutcome> {
+    pub fn outcome(self, line: &mut Line) -> Result<Outcome, NoOutcome>
+        ensures { IfOk result (λ outcome. IsOutcome outcome) }
+    {
         match self {
             Call::Compare => compare_outcome(line),
             Call::Possible => possible_outcome(line),
@@ -71,7 +76,9 @@ impl Call {
 }
 
 /// What the call that a line names gives.
-pub fn outcome(line: &mut Line) -> Result<String, NoOutcome> {
-    let call = Call::of(line.word()?).ok_or(NoOutcome::NoCase)?;
+pub fn outcome(line: &mut Line) -> Result<Outcome, NoOutcome>
+    ensures { IfOk result (λ outcome. IsOutcome outcome) }
+{
+    let call = Call::of(line.word()?.as_bytes()).ok_or(NoOutcome::NoCase)?;
     call.outcome(line)
 }

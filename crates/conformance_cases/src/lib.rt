@@ -5,7 +5,7 @@ ghost use Rattle.std.specs.Prelude.{◌≡◌, ◌+◌, ◌≤◌, IfErr, IfOk, 
 ghost use Rattle.conformance_lists.specs.NoOutcome.{IsUndeclined};
 ghost use Rattle.conformance_lists.specs.declared.no_outcome.NoOutcome.TheVariants.{NoCase};
 
-use conformance_io::banks::Banks;
+use conformance_io::banks::{Banks, Changed};
 use conformance_io::records::{DeviceNumbers, geometry_of};
 use conformance_lists::line::Line;
 use conformance_lists::no_outcome::NoOutcome;
@@ -49,6 +49,16 @@ pub fn banks(line: &mut Line) -> Result<Banks, NoOutcome>
     let one = list(line)?;
     let two = list(line)?;
     Ok(Banks { one, two })
+}
+
+/// What changed in the banks since they stood in a line. They are read again, so that a call holds two banks alone beside
+/// its other lists.
+pub fn changed_since(mut line: Line, now: Banks) -> Result<Changed, NoOutcome>
+    ensures ok { IfOk result (λ changed. changed.now ≡ now) }
+    ensures err { IfErr result IsUndeclined }
+{
+    let before = banks(&mut line)?;
+    Ok(Changed { before, now })
 }
 
 /// An image and the SRAM after it.

@@ -1,14 +1,13 @@
 -- What is written number by number is the whole text. Assumes nothing.
-use mathlib.Core.Path.{◌≡◌, refl, sym, ap, ◌∙◌}
+use mathlib.Core.Path.{◌≡◌, sym, ap, ◌∙◌}
 use mathlib.Core.List.{List, [], ◌∷◌, ◌++◌, append_assoc}
-use Prim.Native.Nat.{ℕ, suc, ◌+◌, ◌-◌, ◌<◌, ◌≤◌}
+use Prim.Native.Nat.{ℕ, ◌+◌, ◌<◌, ◌≤◌}
 use native.Mathlib.Omega.{arith}
 use borrow.Rule.Slice.PartMut.{mid_of}
-use lib.ListN.{length, get_or, take, drop}
+use lib.ListN.{length, get_or, take}
 use Rattle.std.specs.Fmt.{decimal}
 use Rattle.std.proofs.lemmas.List.{take_more, take_all, append-nil}
-use Rattle.conformance_io.specs.declared.banks.Change.{Change}
-use Rattle.conformance_io.specs.Text.{following, numbers_text, changes_following}
+use Rattle.conformance_io.specs.Text.{following, numbers_text}
 
 -- one number more
 following_more : (before : List ℕ) (number : ℕ) → following (before ++ (number ∷ [])) ≡ following before ++ (32 ∷ decimal number)
@@ -27,18 +26,3 @@ pub device_whole : (numbers : List ℕ) (i : ℕ) → length numbers ≡ 19 → 
 device_whole [] i e l = absurd (omega (arith, e))
 device_whole (number ∷ rest) i e l =
     ap (λ (others : List ℕ). decimal number ++ following others) (take_all i (mid_of 1 18 (number ∷ rest)) l ∙ take_all 18 rest (omega (arith, e)))
-
--- one change more
-change_more : (before : List Change) (change : Change)
-    → changes_following (before ++ (change ∷ [])) ≡ changes_following before ++ following (change.bank ∷ change.index ∷ change.word ∷ [])
-change_more [] change = append-nil (following (change.bank ∷ change.index ∷ change.word ∷ []))
-change_more (first ∷ before) change =
-    let front = following (first.bank ∷ first.index ∷ first.word ∷ []) in
-    ap (λ (text : List ℕ). front ++ text) (change_more before change)
-    ∙ sym (append_assoc front (changes_following before) (following (change.bank ∷ change.index ∷ change.word ∷ [])))
-
-pub change_next : (changes : List Change) (i : ℕ) (d : Change) → i < length changes
-    → changes_following (take i changes)
-    ++ following ((get_or changes i d).bank ∷ (get_or changes i d).index ∷ (get_or changes i d).word ∷ [])
-    ≡ changes_following (take (i + 1) changes)
-change_next changes i d l = sym (ap changes_following (take_more changes i d l) ∙ change_more (take i changes) (get_or changes i d))

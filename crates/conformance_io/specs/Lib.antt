@@ -1,3 +1,4 @@
 pub mod Changes
+pub mod Outcome
 pub mod Records
 pub mod Text

@@ -1,5 +1,5 @@
 // The words of a line. One blank stands between two.
-ghost use Rattle.std.specs.Prelude.{◌≡◌, ◌≤◌, IfErr, IfOk, vec_len};
+ghost use Rattle.std.specs.Prelude.{◌≡◌, ◌≤◌, ◌<◌, IfErr, IfOk, vec_len};
 ghost use Rattle.conformance_lists.specs.NoOutcome.{IsUndeclined};
 ghost use Rattle.conformance_lists.specs.Numbers.{number_of};
 ghost use Rattle.conformance_lists.specs.declared.no_outcome.NoOutcome.TheVariants.{NoCase};
@@ -20,14 +20,16 @@ fn number(word: &str) -> Option<u32>
 }
 
 /// The words of a line that are not yet read.
-#[derive(Drop)]
+#[derive(Clone, Drop)]
 pub struct Line<'a> {
     words: Split<'a, char>,
     alloc: Global,
 }
 
 impl<'a> Line<'a> {
-    pub fn of(alloc: Global, text: &'a str) -> Line<'a> {
+    pub fn of(alloc: Global, text: &'a str) -> Line<'a>
+        ensures { result.alloc ≡ alloc }
+    {
         Line {
             words: text.split(' '),
             alloc,
@@ -35,7 +37,9 @@ impl<'a> Line<'a> {
     }
 
     /// Where lists and outcomes are kept.
-    pub fn alloc(&self) -> Global {
+    pub fn alloc(&self) -> Global
+        ensures { result ≡ self.now.alloc }
+    {
         self.alloc
     }
 
@@ -65,6 +69,7 @@ impl<'a> Line<'a> {
     /// One of more than `most` words is no list.
     pub fn list(&mut self, most: usize) -> Result<Vec<u32>, NoOutcome>
         ensures ok { IfOk result (λ words. vec_len words ≤ most) }
+        ensures fits { IfOk result (λ words. vec_len words < 4294967296) }
         ensures err { IfErr result IsUndeclined }
     {
         let [length, word, pairs] = self.numbers::<3>()?;

@@ -1,13 +1,15 @@
 -- One number more, and at the end all of them.
-use Rattle.std.proofs.Common.{rules, ◌≡◌, ◌++◌, sym, ap, ◌∙◌, arith}
+use Rattle.std.proofs.Common.{rules}
 use Rattle.std.proofs.lemmas.Grind.{put_two}
 use Rattle.conformance_io.proofs.TextLaws.{following_next, device_whole}
 use Rattle.conformance_io.proofs.records.DeviceNumbersDisplay.fmt.Goals as goal
 
 pub loop-number-preserved : goal.loop-number-preserved
 loop-number-preserved g c plain =
-    put_two _ _ _ _ _ _ _ (c.loop-number.invariant plain) (c.write-in-loop-number.ensures.writes (search rules) (search rules)) (following_next _ _ c.loop-number-test.true)
+    put_two _ _ _ _ _ _ _ (c.loop-number.invariant plain) (c.write-in-loop-number.ensures.writes (search rules) (search rules))
+    (following_next _ _ c.loop-number-test.true)
 
 pub returns-clause-writes : goal.returns-clause-writes
 returns-clause-writes g c plain ok =
-    put_two _ _ _ _ _ _ _ (c.in_ok-write.ensures.writes plain ok) (c.loop-number.invariant (search rules)) (device_whole _ _ (search rules) c.loop-number-test.false)
+    put_two _ _ _ _ _ _ _ (c.in_ok-write.ensures.writes plain ok) (c.loop-number.invariant (search rules))
+    (device_whole _ _ (search rules) c.loop-number-test.false)

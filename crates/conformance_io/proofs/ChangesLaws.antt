@@ -1,0 +1,84 @@
+-- The changes of a bank word by word, and what is printed of them. Assumes nothing.
+use mathlib.Core.Path.{◌≡◌, refl, sym, ap, ◌∙◌}
+use mathlib.Core.List.{List, [], ◌∷◌, ◌++◌, append_assoc}
+use Prim.Native.Nat.{ℕ, zero, suc, ◌+◌, ◌<◌}
+use native.Mathlib.Omega.{arith}
+use lib.ListN.{length, length-append, get_or, take, drop}
+use Rattle.std.proofs.Common.{nat_eq, true, false, Bool, if◌then◌else◌, Option, Some, None, MatchOption, is_some}
+use Rattle.std.specs.Fmt.{decimal}
+use Rattle.std.proofs.lemmas.List.{append-nil}
+use Rattle.std.proofs.Math.Seq.{drop-nil}
+use Rattle.conformance_io.specs.declared.banks.Change.{Change}
+use Rattle.conformance_io.specs.Changes.{changes_from}
+use Rattle.conformance_io.specs.Text.{following, changes_following, changes_text}
+
+-- the changes of one bank after those of another
+changes_joined : (first rest : List Change) → changes_following (first ++ rest) ≡ changes_following first ++ changes_following rest
+changes_joined [] rest = refl
+changes_joined (change ∷ first) rest =
+    let front = following (change.bank ∷ change.index ∷ change.word ∷ []) in
+    ap (λ (text : List ℕ). front ++ text) (changes_joined first rest) ∙ sym (append_assoc front (changes_following first) (changes_following rest))
+
+-- one word more, before a list that it does not touch
+onto : (same : Bool) (change : Change) (all front back : List Change) → all ≡ front ++ back
+    → if same then all else (change ∷ all) ≡ (if same then front else (change ∷ front)) ++ back
+onto true change all front back e = e
+onto false change all front back e = ap (λ (changes : List Change). change ∷ changes) e
+
+changes_more : (bank k i : ℕ) (now before : List ℕ) → i < length now
+    → changes_from bank k (take (suc i) now) before
+    ≡ changes_from bank k (take i now) before ++ changes_from bank (k + i) (get_or now i 0 ∷ []) (drop i before)
+changes_more bank k i [] before l = absurd (omega (arith, l))
+changes_more bank k zero (word ∷ now) before l = ap (λ (m : ℕ). changes_from bank m (word ∷ []) before) (omega arith)
+changes_more bank k (suc i) (word ∷ now) [] l =
+    let front = changes_from bank (k + 1) (take i now) [] in
+    let at : k + 1 + i ≡ k + suc i = omega arith in
+    ap (λ (changes : List Change). record { bank = bank; index = k; word = word } ∷ changes)
+    (changes_more bank (k + 1) i now [] (omega (arith, l))
+    ∙ ap (λ (rest : List ℕ). front ++ changes_from bank (k + 1 + i) (get_or now i 0 ∷ []) rest) (drop-nil i)
+    ∙ ap (λ (m : ℕ). front ++ changes_from bank m (get_or now i 0 ∷ []) []) at)
+changes_more bank k (suc i) (word ∷ now) (old ∷ before) l =
+    onto (nat_eq old word) _ _ _ _
+    (changes_more bank (k + 1) i now before (omega (arith, l))
+    ∙ ap (λ (m : ℕ). changes_from bank (k + 1) (take i now) before ++ changes_from bank m (get_or now i 0 ∷ []) (drop i before)) (omega arith))
+
+-- the first words and one more, by what that one changed
+module _ (bank i : ℕ) (now before : List ℕ) (l : i < length now) where
+  next : (changes : List Change) → changes_from bank i (get_or now i 0 ∷ []) (drop i before) ≡ changes
+      → changes_from bank 0 (take (i + 1) now) before ≡ changes_from bank 0 (take i now) before ++ changes
+  next changes e =
+      let first = changes_from bank 0 (take i now) before in
+      let more : i + 1 ≡ suc i = omega arith in
+      let at : 0 + i ≡ i = omega arith in
+      ap (λ (m : ℕ). changes_from bank 0 (take m now) before) more
+      ∙ changes_more bank 0 i now before l
+      ∙ ap (λ (m : ℕ). first ++ changes_from bank m (get_or now i 0 ∷ []) (drop i before)) at
+      ∙ ap (λ (rest : List Change). first ++ rest) e
+
+  pub as_before : changes_from bank i (get_or now i 0 ∷ []) (drop i before) ≡ []
+      → changes_from bank 0 (take (i + 1) now) before ≡ changes_from bank 0 (take i now) before
+  as_before e = next [] e ∙ append-nil (changes_from bank 0 (take i now) before)
+
+  pub one_more : (change : Change) → changes_from bank i (get_or now i 0 ∷ []) (drop i before) ≡ change ∷ []
+      → changes_following (changes_from bank 0 (take i now) before) ++ following (change.bank ∷ change.index ∷ change.word ∷ [])
+      ≡ changes_following (changes_from bank 0 (take (i + 1) now) before)
+  one_more change e =
+      let first = changes_from bank 0 (take i now) before in
+      let printed = following (change.bank ∷ change.index ∷ change.word ∷ []) in
+      sym (ap changes_following (next (change ∷ []) e)
+      ∙ changes_joined first (change ∷ [])
+      ∙ ap (λ (text : List ℕ). changes_following first ++ text) (append-nil printed))
+
+  pub counted : (change : Option Change)
+      → MatchOption change (changes_from bank i (get_or now i 0 ∷ []) (drop i before) ≡ [])
+      (λ c. changes_from bank i (get_or now i 0 ∷ []) (drop i before) ≡ c ∷ [])
+      → length (changes_from bank 0 (take (i + 1) now) before)
+      ≡ length (changes_from bank 0 (take i now) before) + (if is_some change then 1 else 0)
+  counted None e = ap length (next [] e) ∙ length-append (changes_from bank 0 (take i now) before) []
+  counted (Some change) e = ap length (next (change ∷ []) e) ∙ length-append (changes_from bank 0 (take i now) before) (change ∷ [])
+
+-- the changes of both banks after their count
+pub both_printed : (one two : List Change) (count_one count_two : ℕ) → count_one ≡ length one → count_two ≡ length two
+    → decimal (count_one + count_two) ++ (changes_following one ++ changes_following two) ≡ changes_text (one ++ two)
+both_printed one two count_one count_two e f =
+    rw (e, f, length-append one two, changes_joined one two) refl
