@@ -8,7 +8,6 @@ use reads::{FlashWord, flash_read};
 use resets::reset;
 use start_up::start_up;
 use update::start::UpdateStart;
-use update::turn::TurnOutcome;
 use update_start::start;
 use update_turn::turn;
 use words::decline::Decline;
@@ -31,6 +30,14 @@ pub struct Progress {
     pub place: u32,
     pub events: u32,
     pub is_done: bool,
+}
+
+/// What a turn tells beside the device.
+#[derive(Clone, Copy, Debug, PartialEq, Eq)]
+pub struct Turned {
+    pub place: u32,
+    pub done: bool,
+    pub event: bool,
 }
 
 #[derive(Clone, Drop)]
@@ -97,26 +104,9 @@ impl State {
         start(self.geometry, self.device, &self.one, &self.two, image)
     }
 
-    pub fn turn(&mut self, image: &[u32], place: u32) -> Result<TurnOutcome, Decline> {
+    // One function for every turn, without `?`: this runs millions of times, and each move of an outcome counts.
+    pub fn turn(&mut self, image: &[u32], place: u32) -> Result<Turned, Decline> {
         let g = self.geometry;
-        let outcome = turn(
-            g,
-            self.device,
-            &mut self.one,
-            &mut self.two,
-            image,
-            &[],
-            place,
-        )?;
-        self.device = outcome.device;
-        Ok(outcome)
-    }
-
-    // The turn of the place that an update has reached; one that is declined leaves it.
-    fn advance(&mut self, image: &[u32], progress: Progress) -> Progress {
-        let g = self.geometry;
-        let place = progress.place;
-        // not by `turn` above: this runs millions of times, and each move of an outcome counts
         match turn(
             g,
             self.device,
@@ -128,12 +118,24 @@ impl State {
         ) {
             Ok(outcome) => {
                 self.device = outcome.device;
-                Progress {
+                Ok(Turned {
                     place: outcome.place,
-                    events: progress.events.wrapping_add(u32::from(outcome.event)),
-                    is_done: outcome.done,
-                }
+                    done: outcome.done,
+                    event: outcome.event,
+                })
             }
+            Err(decline) => Err(decline),
+        }
+    }
+
+    // The turn of the place that an update has reached; one that is declined leaves it.
+    fn advance(&mut self, image: &[u32], progress: Progress) -> Progress {
+        match self.turn(image, progress.place) {
+            Ok(turned) => Progress {
+                place: turned.place,
+                events: progress.events.wrapping_add(u32::from(turned.event)),
+                is_done: turned.done,
+            },
             Err(_) => progress,
         }
     }

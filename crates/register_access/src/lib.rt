@@ -86,7 +86,6 @@ fn applied(d: Device, number: u32, w: u32) -> Device
 }
 
 // A store that is not declined. No call of the device: its callers judge the declines first.
-#[inline(always)]
 #[tactic(auto, unfolding(crate::specs::Store::store_accepted_of))]
 pub fn store_accepted(layout: Layout, d: Device, number: u32, form: u32, value: u32) -> Outcome
     ensures { accepted result.device result.event ≡ store_accepted_of layout.geometry d number form value }

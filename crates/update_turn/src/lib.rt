@@ -44,7 +44,6 @@ fn going(outcome: Outcome, write: Write, place: u32) -> TurnChange
 }
 
 // The effect of the action of a place, or its decline. No call of the updater: turn_effect judges the other declines first.
-#[inline(always)]
 #[tactic(auto, unfolding(update::specs::Turn::act_of))]
 fn act(
     banks: Banks,
@@ -85,7 +84,6 @@ fn act(
 }
 
 // The effect of a turn: the action of its place and no other; done at the total and only there.
-#[inline(always)]
 #[tactic(auto, unfolding(update::specs::Turn::turn_of, update::specs::Turn::turn_decline_of, update::specs::Turn::act_of))]
 pub fn turn_effect(
     g: Geometry,
@@ -128,7 +126,6 @@ pub fn turn_effect(
 }
 
 // One turn.
-#[inline(always)]
 pub fn turn(
     g: Geometry,
     d: Device,
