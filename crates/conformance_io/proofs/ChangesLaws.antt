@@ -85,3 +85,9 @@ pub both_printed : (one two : List Change) (count_one count_two : ℕ) → count
     → decimal (count_one + count_two) ++ (changes_following one ++ changes_following two) ≡ changes_text (one ++ two)
 both_printed one two count_one count_two e f =
     rw (e, f, length-append one two, changes_joined one two) refl
+
+-- no changes after a text
+pub none_printed : (changes : List Change) (count : ℕ) (text : List ℕ) → count ≡ length changes → count ≡ 0
+    → text ++ changes_following changes ≡ text
+none_printed [] count text e none = append-nil text
+none_printed (change ∷ rest) count text e none = absurd (omega (arith, e, none))

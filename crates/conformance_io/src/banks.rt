@@ -95,7 +95,15 @@ impl fmt::Display for Changed {
             before: &self.before.two,
             after: &self.now.two,
         };
-        let count = one.count() + two.count();
-        write!(f, "{count}{one}{two}")
+        let (in_one, in_two) = (one.count(), two.count());
+        write!(f, "{}", in_one + in_two)?;
+        // A bank without changes is not walked again.
+        if in_one != 0 {
+            write!(f, "{one}")?;
+        }
+        if in_two != 0 {
+            write!(f, "{two}")?;
+        }
+        Ok(())
     }
 }
