@@ -11,8 +11,14 @@ use std::io::{BufRead, BufReader, BufWriter, Read, Write};
 // The longest line that can be a case, with its line feed.
 const LONGEST_LINE: usize = 1048576;
 
+// More bytes than the lists of a line take together.
+const ROOM: usize = 16777216;
+
 // The last line may lack its line feed.
 fn answer_lines(rt: &(impl Input + AllocGlobal), out: &mut impl Write) -> io::Result<()> {
+    // malloc keeps what is freed up to twice the largest block that it gave back so far, so after this block it keeps the
+    // lists' memory from line to line. It works without, and asks the system for each line's pages anew.
+    let _ = Vec::<u8>::with_capacity(rt.alloc(), ROOM);
     let mut reader = BufReader::new(rt.alloc(), rt.reader())?;
     let mut line = Vec::with_capacity(rt.alloc(), LONGEST_LINE)?;
     for _ in 0..u64::MAX {

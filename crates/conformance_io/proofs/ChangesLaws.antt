@@ -60,12 +60,15 @@ module _ (bank i : ℕ) (now before : List ℕ) (l : i < length now) where
   as_before e = next [] e ∙ append-nil (changes_from bank 0 (take i now) before)
 
   pub one_more : (change : Change) → changes_from bank i (get_or now i 0 ∷ []) (drop i before) ≡ change ∷ []
-      → changes_following (changes_from bank 0 (take i now) before) ++ following (change.bank ∷ change.index ∷ change.word ∷ [])
+      → changes_following (changes_from bank 0 (take i now) before)
+      ++ (32 ∷ (decimal change.bank ++ (32 ∷ (decimal change.index ++ (32 ∷ decimal change.word)))))
       ≡ changes_following (changes_from bank 0 (take (i + 1) now) before)
   one_more change e =
       let first = changes_from bank 0 (take i now) before in
       let printed = following (change.bank ∷ change.index ∷ change.word ∷ []) in
-      sym (ap changes_following (next (change ∷ []) e)
+      ap (λ (text : List ℕ). changes_following first ++ (32 ∷ (decimal change.bank ++ (32 ∷ (decimal change.index ++ (32 ∷ text))))))
+      (sym (append-nil (decimal change.word)))
+      ∙ sym (ap changes_following (next (change ∷ []) e)
       ∙ changes_joined first (change ∷ [])
       ∙ ap (λ (text : List ℕ). changes_following first ++ text) (append-nil printed))
 
@@ -82,3 +85,9 @@ pub both_printed : (one two : List Change) (count_one count_two : ℕ) → count
     → decimal (count_one + count_two) ++ (changes_following one ++ changes_following two) ≡ changes_text (one ++ two)
 both_printed one two count_one count_two e f =
     rw (e, f, length-append one two, changes_joined one two) refl
+
+-- no changes after a text
+pub none_printed : (changes : List Change) (count : ℕ) (text : List ℕ) → count ≡ length changes → count ≡ 0
+    → text ++ changes_following changes ≡ text
+none_printed [] count text e none = append-nil text
+none_printed (change ∷ rest) count text e none = absurd (omega (arith, e, none))

@@ -1,7 +1,7 @@
 // Both banks, and what a call changed in them.
 ghost use Rattle.std.specs.Prelude.{◌≡◌, ◌≤◌, ◌++◌, [], ◌∷◌, Some, length, drop, MatchOption};
 ghost use Rattle.conformance_io.specs.Changes.{changes_from};
-ghost use Rattle.conformance_io.specs.Text.{numbers_text, changes_following, changes_text};
+ghost use Rattle.conformance_io.specs.Text.{changes_following, changes_text};
 
 use std::fmt;
 
@@ -11,14 +11,6 @@ pub struct Change {
     pub bank: u32,
     pub index: usize,
     pub word: u32,
-}
-
-impl fmt::Display for Change {
-    ghost output = { λ change. Some (numbers_text (change.bank ∷ change.index ∷ change.word ∷ [])) };
-
-    fn fmt<W: fmt::Write>(&self, f: &mut fmt::Formatter<W>) -> fmt::Result {
-        write!(f, "{} {} {}", self.bank, self.index, self.word)
-    }
 }
 
 #[derive(Clone, PartialEq, Eq, Drop)]
@@ -72,7 +64,7 @@ impl fmt::Display for BankChanges<'_> {
     fn fmt<W: fmt::Write>(&self, f: &mut fmt::Formatter<W>) -> fmt::Result {
         for (index, word) in self.after.iter().enumerate() {
             if let Some(change) = self.change(index, *word) {
-                write!(f, " {change}")?;
+                write!(f, " {} {} {}", change.bank, change.index, change.word)?;
             }
         }
         Ok(())
@@ -103,7 +95,15 @@ impl fmt::Display for Changed {
             before: &self.before.two,
             after: &self.now.two,
         };
-        let count = one.count() + two.count();
-        write!(f, "{count}{one}{two}")
+        let (in_one, in_two) = (one.count(), two.count());
+        write!(f, "{}", in_one + in_two)?;
+        // A bank without changes is not walked again.
+        if in_one != 0 {
+            write!(f, "{one}")?;
+        }
+        if in_two != 0 {
+            write!(f, "{two}")?;
+        }
+        Ok(())
     }
 }
