@@ -5,7 +5,6 @@
 ghost use Rattle.std.specs.Prelude.{◌≡◌};
 ghost use Rattle.map.specs.Location.{location_of};
 ghost use Rattle.device.specs.Record.{op_of};
-ghost use Rattle.protection.specs.Protection.{pwp_of};
 ghost use Rattle.nvmop.specs.Operation.{unit_of, target_of, target_begins_of, region_begins_of, begins_at_of, begins_of, launched_begins_of, length_of};
 
 use device::numbers::{
@@ -45,33 +44,34 @@ pub fn target(layout: Layout, op: u32, address: u32) -> Option<Location>
 }
 
 #[tactic(auto, unfolding(crate::specs::Operation::target_begins_of))]
-fn target_begins(layout: Layout, d: Device, address: u32) -> bool
-    ensures { result ≡ target_begins_of layout.geometry (pwp_of d) (target_of layout.geometry (op_of d) address) }
+fn target_begins(layout: Layout, op: u32, address: u32, last: u32) -> bool
+    ensures { result ≡ target_begins_of layout.geometry last (target_of layout.geometry op address) }
 {
-    match target(layout, op(d), address) {
-        Some(l) => !l.program || !is_page_protected(layout, pwp(d), l.upper, l.page(layout)),
+    match target(layout, op, address) {
+        Some(l) => !l.program || !is_page_protected(layout, last, l.upper, l.page(layout)),
         None => false,
     }
 }
 
 // A region has a protected page where its first page is protected.
 #[tactic(auto, using(crate::proofs::OperationLaws::region_first))]
-fn region_begins(layout: Layout, d: Device, upper: bool) -> bool
-    ensures { result ≡ region_begins_of layout.geometry (pwp_of d) upper }
+fn region_begins(layout: Layout, last: u32, upper: bool) -> bool
+    ensures { result ≡ region_begins_of layout.geometry last upper }
 {
-    !is_page_protected(layout, pwp(d), upper, 0)
+    !is_page_protected(layout, last, upper, 0)
 }
 
-// Whether the launch of the device's NVMOP at an address begins steps, by PWP.
+// Whether the launch of an NVMOP begins steps, by its address and by PWP. Of the device it takes these two numbers alone: a device that is
+// handed on is copied at every call that judges decline 3 while an operation runs.
 #[tactic(auto, unfolding(crate::specs::Operation::begins_at_of))]
-fn begins_at(layout: Layout, d: Device, address: u32) -> bool
-    ensures { result ≡ begins_at_of layout.geometry (op_of d) address (pwp_of d) }
+fn begins_at(layout: Layout, op: u32, address: u32, last: u32) -> bool
+    ensures { result ≡ begins_at_of layout.geometry op address last }
 {
-    match op(d) {
-        QUAD_PROGRAM | ROW_PROGRAM | PAGE_ERASE => target_begins(layout, d, address),
-        LOWER_ERASE => region_begins(layout, d, false),
-        UPPER_ERASE => region_begins(layout, d, true),
-        BOTH_ERASE => pwp(d) == 0,
+    match op {
+        QUAD_PROGRAM | ROW_PROGRAM | PAGE_ERASE => target_begins(layout, op, address, last),
+        LOWER_ERASE => region_begins(layout, last, false),
+        UPPER_ERASE => region_begins(layout, last, true),
+        BOTH_ERASE => last == 0,
         _ => false,
     }
 }
@@ -80,14 +80,14 @@ fn begins_at(layout: Layout, d: Device, address: u32) -> bool
 pub fn begins(layout: Layout, d: Device) -> bool
     ensures { result ≡ begins_of layout.geometry d }
 {
-    begins_at(layout, d, d.nvmaddr)
+    begins_at(layout, op(d), d.nvmaddr, pwp(d))
 }
 
 // Whether it does with what the running operation was launched with.
 pub fn launched_begins(layout: Layout, d: Device) -> bool
     ensures { result ≡ launched_begins_of layout.geometry d }
 {
-    begins_at(layout, d, d.launched.nvmaddr)
+    begins_at(layout, op(d), d.launched.nvmaddr, pwp(d))
 }
 
 // The number of steps.
