@@ -79,7 +79,8 @@ impl Running<'_> {
         }
     }
 
-    // A step that is not declined: one quad, ascending.
+    // A step that is not declined: one quad, ascending. Inlined, as the two functions below: each copies the device once more where it is
+    // a function of its own.
     #[inline(always)]
     pub fn step_effect(self, sram: &[u32]) -> StepEffect
         ensures { step_effect_from result

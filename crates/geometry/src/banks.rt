@@ -23,7 +23,7 @@ fn is_listed(q: u32) -> bool
     matches!(q, 1 | 2 | 4 | 8 | 16 | 32 | 64 | 128)
 }
 
-// Whether decline 1 does not apply.
+// Whether decline 1 does not apply. By `&`, since every call asks this first, and five comparisons cost less than five branches.
 #[tactic(auto, unfolding(crate::specs::Banks::in_range_up_to))]
 pub fn in_range(g: Geometry) -> bool
     ensures { result ≡ in_range_of g }

@@ -30,6 +30,7 @@ impl Window {
         }
     }
 
+    // Whether both numbers of the window are in range.
     #[tactic(auto, unfolding(crate::specs::Windows::window_in_range_of))]
     pub fn is_in_range(self) -> bool
         ensures { result ≡ window_in_range_of self }

@@ -15,7 +15,7 @@ use resets::reset;
 use script_format::Record;
 use words::decline::Decline;
 
-// Plays one record.
+// Plays one record. Inlined, so that the outcome of its store, step or reset is not copied on the way.
 #[inline(always)]
 #[tactic(auto, unfolding(crate::specs::Record::record_after_of))]
 pub fn play_record(

@@ -27,7 +27,7 @@ fn start_up_decline(g: Geometry, d: Device) -> Result<(), Decline>
     Ok(())
 }
 
-// The device after a store; a store that is declined leaves it.
+// The device after a store; a store that is declined leaves it. Inlined: up to five stores follow each other, each of the device before.
 #[inline(always)]
 fn stored(g: Geometry, d: Device, number: u32, form: u32, value: u32) -> Device
     ensures { result ≡ (store_of g d number form value).device }
