@@ -6,8 +6,7 @@ ghost use Rattle.std.specs.Prelude.{◌≤◌, length};
 ghost use Rattle.script_program.specs.Program.{output_room};
 
 use script_program::{OUTPUT, print};
-use std::io;
-use std::io::Read;
+use std::io::{Read, Stdin};
 
 // No more of the input is read.
 const INPUT: usize = 1048576;
@@ -36,14 +35,36 @@ fn play_all(rt: &impl Print, input: &[u8], out: &mut [u8])
     }
 }
 
-fn run(rt: &(impl Input + Print + AllocGlobal)) -> io::Result<()> {
-    let mut input = Vec::with_capacity(rt.alloc(), INPUT)?;
-    let mut out = vec![in rt.alloc(); 0; OUTPUT]?;
-    let _ = rt.reader().take(INPUT as u64).read_to_end(&mut input);
-    play_all(rt, &input, &mut out);
-    Ok(())
+// Reads until the buffer is full, the input ends or a read fails; gives how many bytes are read.
+fn read_full(mut from: Stdin, input: &mut [u8]) -> usize
+    ensures { result ≤ length input.new }
+{
+    let mut count = 0;
+    while count < input.len() {
+        let got = from.read(&mut input[count..]).unwrap_or(0);
+        if got == 0 {
+            break;
+        }
+        count += got;
+    }
+    count
 }
 
-fn main(rt: HostRuntime) -> io::Result<()> {
-    run(&rt)
+// Reads the input and plays it; the buffer has room for every output.
+fn play_input(rt: &HostRuntime, input: &mut [u8], out: &mut [u8])
+    requires { output_room ≤ length out.old }
+{
+    let count = read_full(rt.stdin(), input);
+    play_all(rt, &input[..count], out);
+}
+
+// Lends the arrays as slices. In main itself their lengths would have to be counted out element by element.
+fn run(rt: &HostRuntime, input: &mut [u8; INPUT], out: &mut [u8; OUTPUT]) {
+    play_input(rt, input, out);
+}
+
+fn main(rt: HostRuntime) {
+    let mut input = [0u8; INPUT];
+    let mut out = [0u8; OUTPUT];
+    run(&rt, &mut input, &mut out);
 }
