@@ -1,12 +1,11 @@
 // The cuts of a state.
-use crate::state::{Bank, State, number_of};
+use crate::state::{Bank, State, Turned, number_of};
 use crate::sums::Sums;
-use std::alloc::{AllocError, Global};
 use std::fmt;
 use words::decline::Decline;
 
-/// The kinds of reset.
-const KINDS: u32 = 3;
+// The cuts of a place: for each of three kinds of reset, each mask.
+const CUTS: usize = 18;
 
 const MASKS: [[u32; 4]; 6] = [
     [0; 4],
@@ -19,7 +18,7 @@ const MASKS: [[u32; 4]; 6] = [
 
 // What a cut leaves: the bank that runs then and, where it is the old one, how a second start of the same update is
 // answered and which bank runs after that update, a power-on and a start-up.
-#[derive(Clone, Copy)]
+#[derive(Clone, Copy, Default)]
 struct Cut {
     running: Option<Bank>,
     again: Option<Result<Option<Bank>, Decline>>,
@@ -56,45 +55,36 @@ fn update_again(
     Ok(state.power_on())
 }
 
+impl Cut {
+    // The cut of a number, of a copy of the state.
+    fn of(state: &State, image: &[u32], old: Bank, number: u32, sums: &mut Sums) -> Cut {
+        let mut copy = *state;
+        let running = copy.restart(number / 6, MASKS[number as usize % 6]);
+        sums.add_cut(&copy);
+        let again = if running == Some(old) {
+            Some(update_again(&mut copy, image, sums))
+        } else {
+            None
+        };
+        Cut { running, again }
+    }
+}
+
 /// Every cut of a state, and the sums; each number prints after a blank.
-#[derive(Drop)]
+#[derive(Clone, Copy)]
 pub struct Cuts {
-    cuts: Vec<Cut>,
+    cuts: [Cut; CUTS],
     sums: Sums,
 }
 
 impl Cuts {
-    // The cuts of one kind, each of a copy of the state.
-    fn add_kind(
-        &mut self,
-        state: &State,
-        image: &[u32],
-        old: Bank,
-        kind: u32,
-    ) -> Result<(), AllocError> {
-        for mask in MASKS {
-            let mut copy = state.clone()?;
-            let running = copy.restart(kind, mask);
-            self.sums.add_cut(&copy);
-            let again = if running == Some(old) {
-                Some(update_again(&mut copy, image, &mut self.sums))
-            } else {
-                None
-            };
-            self.cuts.push(Cut { running, again })?;
+    pub fn of(state: &State, image: &[u32], old: Bank) -> Cuts {
+        let mut cuts = [Cut::default(); CUTS];
+        let mut sums = Sums::of(state);
+        for (number, cut) in (0..).zip(cuts.iter_mut()) {
+            *cut = Cut::of(state, image, old, number, &mut sums);
         }
-        Ok(())
-    }
-
-    pub fn of(alloc: Global, state: &State, image: &[u32], old: Bank) -> Result<Cuts, AllocError> {
-        let mut cuts = Cuts {
-            cuts: Vec::new(alloc),
-            sums: Sums::of(state),
-        };
-        for kind in 0..KINDS {
-            cuts.add_kind(state, image, old, kind)?;
-        }
-        Ok(cuts)
+        Cuts { cuts, sums }
     }
 }
 
@@ -108,18 +98,28 @@ impl fmt::Display for Cuts {
 }
 
 /// The rest of a line: the cuts of a state, and the turn of a place from it.
-pub fn cuts_and_turn(
-    alloc: Global,
-    state: &mut State,
-    image: &[u32],
-    old: Bank,
-    place: u32,
-) -> Result<String, AllocError> {
-    let cuts = Cuts::of(alloc, state, image, old)?;
-    let (declined, done, event) = match state.turn(image, place) {
-        Ok(outcome) => (0, outcome.done, outcome.event),
-        Err(decline) => (decline.number(), false, false),
-    };
-    let (done, event) = (u8::from(done), u8::from(event));
-    format!(in alloc; "{cuts} {declined} {done} {event}")
+#[derive(Clone, Copy)]
+pub struct CutsAndTurn {
+    cuts: Cuts,
+    turned: Result<Turned, Decline>,
+}
+
+impl CutsAndTurn {
+    pub fn of(state: &mut State, image: &[u32], old: Bank, place: u32) -> CutsAndTurn {
+        CutsAndTurn {
+            cuts: Cuts::of(state, image, old),
+            turned: state.turn(image, place),
+        }
+    }
+}
+
+impl fmt::Display for CutsAndTurn {
+    fn fmt<W: fmt::Write>(&self, f: &mut fmt::Formatter<W>) -> fmt::Result {
+        let (declined, done, event) = match self.turned {
+            Ok(turned) => (0, turned.done, turned.event),
+            Err(decline) => (decline.number(), false, false),
+        };
+        let (done, event) = (u8::from(done), u8::from(event));
+        write!(f, "{} {declined} {done} {event}", self.cuts)
+    }
 }

@@ -1,12 +1,11 @@
 // Lists with a flash read: turns up to a place, then a read of the bank that is worked on, which carries out what remains.
-use crate::cuts::{Cuts, cuts_and_turn};
+use crate::cuts::{Cuts, CutsAndTurn};
 use crate::signs::Sign;
 use crate::state::State;
 use device::registers::Nvmcon;
 use geometry::banks::Geometry;
 use geometry::layout::Layout;
 use map::window_start;
-use std::alloc::{AllocError, Global};
 use words::word::has;
 
 // The fewest program words of a sign.
@@ -24,39 +23,28 @@ fn address_of(g: Geometry, place: u32) -> u32 {
 }
 
 // Runs the update from power-on to a place.
-fn run_to(alloc: Global, sign: &Sign, image: &[u32], place: u32) -> Result<State, AllocError> {
-    let mut state = sign.state(alloc)?;
+fn run_to(sign: &Sign, image: &[u32], place: u32) -> State {
+    let mut state = sign.state();
     state.power_on();
     state.run_turns(image, u64::from(place));
-    Ok(state)
+    state
 }
 
 // The line of a place's list with the whole read, and the turn of its place after it.
-fn print_read(
-    rt: &(impl Print + AllocGlobal),
-    sign: &Sign,
-    image: &[u32],
-    place: u32,
-) -> Result<(), AllocError> {
-    let mut state = run_to(rt.alloc(), sign, image, place)?;
+fn print_read(rt: &impl Print, sign: &Sign, image: &[u32], place: u32) {
+    let mut state = run_to(sign, image, place);
     let (declined, word, event) = match state.read(address_of(sign.geometry, place)) {
         Ok(read) => (0, read.word, read.event),
         Err(decline) => (decline.number(), 0, false),
     };
     let event = u8::from(event);
-    let rest = cuts_and_turn(rt.alloc(), &mut state, image, sign.old, place)?;
+    let rest = CutsAndTurn::of(&mut state, image, sign.old, place);
     let _ = println!(rt; "{place} 0 {declined} {word} {event}{rest}");
-    Ok(())
 }
 
 // Single steps, each but the last with the line of the list that ends after it.
-fn print_steps(
-    rt: &(impl Print + AllocGlobal),
-    sign: &Sign,
-    image: &[u32],
-    place: u32,
-) -> Result<(), AllocError> {
-    let mut state = run_to(rt.alloc(), sign, image, place)?;
+fn print_steps(rt: &impl Print, sign: &Sign, image: &[u32], place: u32) {
+    let mut state = run_to(sign, image, place);
     for count in 1..MOST_STEPS {
         let (declined, event) = match state.step() {
             Ok(outcome) => (0, outcome.event),
@@ -66,22 +54,15 @@ fn print_steps(
             break;
         }
         let event = u8::from(event);
-        let cuts = Cuts::of(rt.alloc(), &state, image, sign.old)?;
+        let cuts = Cuts::of(&state, image, sign.old);
         let _ = println!(rt; "{place} {count} {declined} {event}{cuts}");
     }
-    Ok(())
 }
 
 /// The lines of all places.
-pub fn print_lists(
-    rt: &(impl Print + AllocGlobal),
-    sign: &Sign,
-    image: &[u32],
-    total: u32,
-) -> Result<(), AllocError> {
+pub fn print_lists(rt: &impl Print, sign: &Sign, image: &[u32], total: u32) {
     for place in 0..=total {
-        print_read(rt, sign, image, place)?;
-        print_steps(rt, sign, image, place)?;
+        print_read(rt, sign, image, place);
+        print_steps(rt, sign, image, place);
     }
-    Ok(())
 }

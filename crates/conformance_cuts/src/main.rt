@@ -35,33 +35,32 @@ mod signs;
 mod state;
 mod sums;
 
-use cuts::cuts_and_turn;
+use cuts::CutsAndTurn;
 use lists::print_lists;
 use signs::{Sign, signs};
 use state::number_of;
-use std::alloc::AllocError;
 
 // The line of a sign, and those of its places and of their lists.
-fn print_sign(rt: &(impl Print + AllocGlobal), sign: Sign) -> Result<(), AllocError> {
-    let image = sign.image(rt.alloc())?;
-    let mut state = sign.state(rt.alloc())?;
+fn print_sign(rt: &impl Print, sign: Sign) {
+    let words = sign.image();
+    let image = &words[..sign.words];
+    let mut state = sign.state();
     let running = number_of(state.power_on());
-    let (declined, total) = match state.start(&image) {
+    let (declined, total) = match state.start(image) {
         Ok(started) => (0, started.total),
         Err(decline) => (decline.number(), 0),
     };
     let g = sign.geometry;
     let _ = println!(rt; "{} {} {} {running} {declined} {total}", g.q, g.b, g.p);
     for place in 0..=total {
-        let rest = cuts_and_turn(rt.alloc(), &mut state, &image, sign.old, place)?;
+        let rest = CutsAndTurn::of(&mut state, image, sign.old, place);
         let _ = println!(rt; "{place}{rest}");
     }
-    print_lists(rt, &sign, &image, total)
+    print_lists(rt, &sign, image, total);
 }
 
-fn main(rt: HostRuntime) -> Result<(), AllocError> {
+fn main(rt: HostRuntime) {
     for sign in signs() {
-        print_sign(&rt, sign)?;
+        print_sign(&rt, sign);
     }
-    Ok(())
 }

@@ -1,10 +1,12 @@
 // The signs that are updated, and their words.
-ghost use Rattle.std.specs.Prelude.{◌≡◌, ◌<◌, ◌≤◌, IfOk, vec_len};
+ghost use Rattle.std.specs.Prelude.{◌<◌, ◌≤◌};
 
 use crate::state::{Bank, State};
 use device::builders::power_on;
 use geometry::banks::Geometry;
-use std::alloc::{AllocError, Global};
+
+/// The words of the longest bank: Q=2, B=2, P=1.
+pub const MOST_WORDS: usize = 192;
 
 /// A sign before power-on: its geometry, the words of a bank and the index of the sequence word there, the old bank, and
 /// the sequence words of the old bank and of the other.
@@ -17,6 +19,7 @@ pub struct Sign {
     pub own: u32,
     pub other: u32,
     ghost in_bank: { sequence < words },
+    ghost in_room: { words ≤ 192 },
 }
 
 // Q=B=P=1.
@@ -57,39 +60,38 @@ pub fn signs() -> [Sign; 4] {
     ]
 }
 
-// The words of a bank or an image before power-on.
-fn filled(alloc: Global, count: usize, seed: u32) -> Result<Vec<u32>, AllocError>
-    ensures { IfOk result (λ words. vec_len words ≡ count) }
-{
-    let mut words = vec![in alloc; seed.wrapping_mul(987654321); count]?;
+// The words of a bank or an image before power-on, as many as the longest has; those of the sign are the first.
+fn filled(seed: u32) -> [u32; MOST_WORDS] {
+    let mut words = [seed.wrapping_mul(987654321); MOST_WORDS];
     let mut mixed = 0u32;
     for word in words.iter_mut() {
         mixed = mixed.wrapping_add(2654435761);
         *word = word.wrapping_add(mixed);
     }
-    Ok(words)
+    words
 }
 
 impl Sign {
-    pub fn image(&self, alloc: Global) -> Result<Vec<u32>, AllocError> {
-        filled(alloc, self.words, 3)
+    /// The first `words` are the image.
+    pub fn image(&self) -> [u32; MOST_WORDS] {
+        filled(3)
     }
 
     /// The sign before power-on.
-    pub fn state(&self, alloc: Global) -> Result<State, AllocError> {
-        let mut one = filled(alloc, self.words, 1)?;
-        let mut two = filled(alloc, self.words, 2)?;
+    pub fn state(&self) -> State {
+        let mut one = filled(1);
+        let mut two = filled(2);
         let (of_one, of_two) = match self.old {
             Bank::One => (self.own, self.other),
             Bank::Two => (self.other, self.own),
         };
         one[self.sequence] = of_one;
         two[self.sequence] = of_two;
-        Ok(State {
-            geometry: self.geometry,
+        State {
+            sign: *self,
             device: power_on(),
             one,
             two,
-        })
+        }
     }
 }

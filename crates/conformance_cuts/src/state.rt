@@ -1,9 +1,11 @@
 // A sign's device with both banks: resets with a start-up, flash steps and reads, turns and whole updates, all with no SRAM.
+ghost use Rattle.std.specs.Prelude.{◌≤◌};
+
+use crate::signs::{MOST_WORDS, Sign};
 use device::outcome::Outcome;
 use device::record::Device;
 use device::registers::Nvmcon;
 use flash::step::step;
-use geometry::banks::Geometry;
 use reads::{FlashWord, flash_read};
 use resets::reset;
 use start_up::start_up;
@@ -40,22 +42,36 @@ pub struct Turned {
     pub event: bool,
 }
 
-#[derive(Clone, Drop)]
+/// The first words of each array, as many as the sign has, are a bank.
+#[derive(Clone, Copy)]
 pub struct State {
-    pub geometry: Geometry,
+    pub sign: Sign,
     pub device: Device,
-    pub one: Vec<u32>,
-    pub two: Vec<u32>,
+    pub one: [u32; MOST_WORDS],
+    pub two: [u32; MOST_WORDS],
+}
+
+// A bank in its array.
+fn lent(array: &mut [u32; MOST_WORDS], words: usize) -> &mut [u32]
+    requires { words ≤ 192 }
+{
+    &mut array[..words]
 }
 
 impl State {
+    /// Bank 1 and bank 2.
+    pub fn banks(&self) -> (&[u32], &[u32]) {
+        let words = self.sign.words;
+        (&self.one[..words], &self.two[..words])
+    }
+
     fn reset_and_start_up(&mut self, kind: u32, mask: [u32; 4]) -> Result<(), Decline> {
-        let g = self.geometry;
+        let (g, words) = (self.sign.geometry, self.sign.words);
         let after = reset(
             g,
             self.device,
-            &mut self.one,
-            &mut self.two,
+            lent(&mut self.one, words),
+            lent(&mut self.two, words),
             &[],
             kind,
             mask,
@@ -87,31 +103,45 @@ impl State {
     }
 
     pub fn step(&mut self) -> Result<Outcome, Decline> {
-        let g = self.geometry;
-        let outcome = step(g, self.device, &mut self.one, &mut self.two, &[])?;
+        let (g, words) = (self.sign.geometry, self.sign.words);
+        let outcome = step(
+            g,
+            self.device,
+            lent(&mut self.one, words),
+            lent(&mut self.two, words),
+            &[],
+        )?;
         self.device = outcome.device;
         Ok(outcome)
     }
 
     pub fn read(&mut self, address: u32) -> Result<FlashWord, Decline> {
-        let g = self.geometry;
-        let read = flash_read(g, self.device, &mut self.one, &mut self.two, &[], address)?;
+        let (g, words) = (self.sign.geometry, self.sign.words);
+        let read = flash_read(
+            g,
+            self.device,
+            lent(&mut self.one, words),
+            lent(&mut self.two, words),
+            &[],
+            address,
+        )?;
         self.device = read.device;
         Ok(read)
     }
 
     pub fn start(&self, image: &[u32]) -> Result<UpdateStart, Decline> {
-        start(self.geometry, self.device, &self.one, &self.two, image)
+        let (one, two) = self.banks();
+        start(self.sign.geometry, self.device, one, two, image)
     }
 
     // One function for every turn, without `?`: this runs millions of times, and each move of an outcome counts.
     pub fn turn(&mut self, image: &[u32], place: u32) -> Result<Turned, Decline> {
-        let g = self.geometry;
+        let (g, words) = (self.sign.geometry, self.sign.words);
         match turn(
             g,
             self.device,
-            &mut self.one,
-            &mut self.two,
+            lent(&mut self.one, words),
+            lent(&mut self.two, words),
             image,
             &[],
             place,

@@ -41,10 +41,11 @@ pub struct Sums {
 impl Sums {
     /// The sums of a place before its first cut.
     pub fn of(state: &State) -> Sums {
+        let (one, two) = state.banks();
         let mut sum = Sum::default();
         sum.add_device(state.device);
-        sum.add_all(&state.one);
-        sum.add_all(&state.two);
+        sum.add_all(one);
+        sum.add_all(two);
         Sums {
             state: sum,
             ..Sums::default()
@@ -52,17 +53,19 @@ impl Sums {
     }
 
     pub fn add_cut(&mut self, state: &State) {
+        let (one, two) = state.banks();
         self.devices.add_device(state.device);
-        self.cut_one.add_all(&state.one);
-        self.cut_two.add_all(&state.two);
+        self.cut_one.add_all(one);
+        self.cut_two.add_all(two);
     }
 
     pub fn add_again(&mut self, state: &State, progress: Progress) {
+        let (one, two) = state.banks();
         self.devices.add_device(state.device);
         self.devices.add(progress.place);
         self.devices.add(progress.events);
-        self.again_one.add_all(&state.one);
-        self.again_two.add_all(&state.two);
+        self.again_one.add_all(one);
+        self.again_two.add_all(two);
     }
 }
 
