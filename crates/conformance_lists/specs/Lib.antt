@@ -1,2 +1,1 @@
-pub mod NoOutcome
 pub mod Numbers

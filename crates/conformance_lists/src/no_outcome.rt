@@ -1,8 +1,7 @@
 // Why a call has no outcome for a line.
-ghost use Rattle.conformance_lists.specs.declared.no_outcome.NoOutcome.TheVariants.{Declined, OutOfMemory};
+ghost use Rattle.conformance_lists.specs.declared.no_outcome.NoOutcome.TheVariants.{Declined};
 ghost use Rattle.std.specs.Prelude.{◌≡◌};
 
-use std::alloc::AllocError;
 use std::error::Error;
 use std::fmt;
 use words::decline::Decline;
@@ -13,8 +12,6 @@ pub enum NoOutcome {
     NoCase,
     /// The call declines.
     Declined(Decline),
-    /// There is no memory for the lists or the outcome.
-    OutOfMemory,
 }
 
 impl fmt::Display for NoOutcome {
@@ -22,20 +19,11 @@ impl fmt::Display for NoOutcome {
         match self {
             NoOutcome::NoCase => write!(f, "?"),
             NoOutcome::Declined(decline) => write!(f, "{}", decline.number()),
-            NoOutcome::OutOfMemory => write!(f, "out of memory"),
         }
     }
 }
 
 impl Error for NoOutcome {}
-
-impl From<AllocError> for NoOutcome {
-    ghost from_gives = { λ _ why. why ≡ OutOfMemory };
-
-    fn from(_e: AllocError) -> NoOutcome {
-        NoOutcome::OutOfMemory
-    }
-}
 
 impl From<Decline> for NoOutcome {
     ghost from_gives = { λ decline why. why ≡ Declined decline };
