@@ -1,3 +1,2 @@
 pub mod TextLaws
-pub mod OutcomeLaws
 pub mod ChangesLaws

@@ -1,13 +1,11 @@
 -- What is written number by number is the whole text. Assumes nothing.
 use mathlib.Core.Path.{◌≡◌, sym, ap, ◌∙◌}
 use mathlib.Core.List.{List, [], ◌∷◌, ◌++◌, append_assoc}
-use Prim.Native.Nat.{ℕ, ◌+◌, ◌<◌, ◌≤◌}
-use native.Mathlib.Omega.{arith}
-use borrow.Rule.Slice.PartMut.{mid_of}
+use Prim.Native.Nat.{ℕ, ◌+◌, ◌<◌}
 use lib.ListN.{length, get_or, take}
 use Rattle.std.specs.Fmt.{decimal}
-use Rattle.std.proofs.lemmas.List.{take_more, take_all, append-nil}
-use Rattle.conformance_io.specs.Text.{following, numbers_text}
+use Rattle.std.proofs.lemmas.List.{take_more, append-nil}
+use Rattle.conformance_io.specs.Text.{following}
 
 -- one number more
 following_more : (before : List ℕ) (number : ℕ) → following (before ++ (number ∷ [])) ≡ following before ++ (32 ∷ decimal number)
@@ -19,10 +17,3 @@ following_more (first ∷ before) number =
 pub following_next : (numbers : List ℕ) (i : ℕ) → i < length numbers
     → following (take i numbers) ++ (32 ∷ decimal (get_or numbers i 0)) ≡ following (take (i + 1) numbers)
 following_next numbers i l = sym (ap following (take_more numbers i 0 l) ∙ following_more (take i numbers) (get_or numbers i 0))
-
--- the first number, and as many of the others as there are
-pub device_whole : (numbers : List ℕ) (i : ℕ) → length numbers ≡ 19 → length (mid_of 1 18 numbers) ≤ i
-    → decimal (get_or numbers 0 0) ++ following (take i (mid_of 1 18 numbers)) ≡ numbers_text numbers
-device_whole [] i e l = absurd (omega (arith, e))
-device_whole (number ∷ rest) i e l =
-    ap (λ (others : List ℕ). decimal number ++ following others) (take_all i (mid_of 1 18 (number ∷ rest)) l ∙ take_all 18 rest (omega (arith, e)))

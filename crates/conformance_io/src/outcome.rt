@@ -1,36 +1,47 @@
 // What a call gives.
-ghost use Rattle.std.specs.Prelude.{◌≡◌, Some, None};
-ghost use Rattle.conformance_io.specs.Outcome.{outcome_text};
+ghost use Rattle.std.specs.Prelude.{◌≡◌, None, Some};
+ghost use Rattle.conformance_io.specs.Outcome.{IsOutcome};
 
-use crate::banks::Changed;
-use std::fmt;
+use crate::numbers::Numbers;
 
-/// What a call gives: its numbers with one blank between two, and of a call that changes lent banks these.
+/// The banks after a call that may have changed them.
 #[derive(Drop)]
-pub struct Outcome {
-    pub numbers: String,
-    pub changed: Option<Changed>,
+pub struct Changed<'a> {
+    pub one: &'a [u32],
+    pub two: &'a [u32],
+    /// The words of the line from both banks on, which tell what they were before the call.
+    pub before: &'a str,
+    /// Room for one bank as it was.
+    pub spare: &'a mut [u32],
 }
 
-impl From<String> for Outcome {
-    ghost from_gives = { λ numbers outcome. (outcome.numbers ≡ numbers) × (outcome.changed ≡ None) };
+/// What a call gives: its numbers, and of a call that changes lent banks these.
+#[derive(Drop)]
+pub struct Outcome<'a> {
+    pub numbers: Numbers,
+    pub changed: Option<Changed<'a>>,
+}
 
-    fn from(numbers: String) -> Outcome {
+impl<'a> Outcome<'a> {
+    pub fn changing(numbers: Numbers, changed: Changed<'a>) -> Outcome<'a>
+        ensures numbers { result.numbers ≡ numbers }
+        ensures changed { result.changed ≡ Some changed.entry }
+        ensures outcome { IsOutcome result }
+    {
+        Outcome {
+            numbers,
+            changed: Some(changed),
+        }
+    }
+
+    pub fn only(numbers: Numbers) -> Outcome<'a>
+        ensures numbers { result.numbers ≡ numbers }
+        ensures changed { result.changed ≡ None }
+        ensures outcome { IsOutcome result }
+    {
         Outcome {
             numbers,
             changed: None,
         }
-    }
-}
-
-impl fmt::Display for Outcome {
-    ghost output = { λ outcome. Some (outcome_text outcome) };
-
-    fn fmt<W: fmt::Write>(&self, f: &mut fmt::Formatter<W>) -> fmt::Result {
-        write!(f, "{}", self.numbers)?;
-        if let Some(changed) = &self.changed {
-            write!(f, " {changed}")?;
-        }
-        Ok(())
     }
 }

@@ -1,12 +1,10 @@
 // The geometry and the device as numbers of a case.
-ghost use Rattle.std.specs.Prelude.{◌≡◌, Some};
+ghost use Rattle.std.specs.Prelude.{◌≡◌};
 ghost use Rattle.conformance_io.specs.Records.{geometry_of, device_of};
-ghost use Rattle.conformance_io.specs.Text.{numbers_text};
 
 use device::record::{Device, Operands};
 use device::registers::{Nvmbwp, Nvmcon, Nvmcon2, Nvmpwp};
 use geometry::banks::Geometry;
-use std::fmt;
 
 /// Q, B and P.
 pub fn geometry_of(numbers: [u32; 3]) -> Geometry
@@ -93,19 +91,5 @@ impl From<Device> for DeviceNumbers {
             launched3,
             launched.nvmsrcaddr,
         ])
-    }
-}
-
-// Prints the numbers with one blank between two.
-impl fmt::Display for DeviceNumbers {
-    ghost output = { λ numbers. Some (numbers_text numbers.0) };
-
-    fn fmt<W: fmt::Write>(&self, f: &mut fmt::Formatter<W>) -> fmt::Result {
-        let numbers = &self.0;
-        write!(f, "{}", numbers[0])?;
-        for number in &numbers[1..] {
-            write!(f, " {number}")?;
-        }
-        Ok(())
     }
 }
