@@ -1,4 +1,4 @@
-// What each call gives for the inputs that stand in a line: the text that the program prints, or why there is none.
+// What each call gives for the inputs that stand in a line: its numbers and what it changed, or why there is nothing.
 #![tactic(auto)]
 
 pub mod bank_calls;

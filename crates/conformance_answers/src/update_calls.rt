@@ -2,44 +2,50 @@
 ghost use Rattle.std.specs.Prelude.{IfOk};
 ghost use Rattle.conformance_io.specs.Outcome.{IsOutcome};
 
-use conformance_cases::{banks, changed_since, image_and_sram, list, sign};
-use conformance_io::outcome::Outcome;
-use conformance_io::records::DeviceNumbers;
+use conformance_cases::{banks, image_and_sram, list, sign};
+use conformance_io::numbers::Numbers;
+use conformance_io::outcome::{Changed, Outcome};
+use conformance_io::room::Rooms;
 use conformance_lists::line::Line;
 use conformance_lists::no_outcome::NoOutcome;
 use update_start::start;
 use update_turn::turn;
 
-pub fn update_start_outcome(line: &mut Line) -> Result<Outcome, NoOutcome>
+pub fn update_start_outcome<'a>(
+    line: &mut Line<'a>,
+    rooms: Rooms<'a>,
+    spare: &mut [u32],
+) -> Result<Outcome<'a>, NoOutcome>
     ensures { IfOk result (λ outcome. IsOutcome outcome) }
 {
     let (g, d) = sign(line)?;
-    let banks = banks(line)?;
-    let image = list(line)?;
+    let (one, two) = banks(line, rooms)?;
+    let image = list(line, spare)?;
     line.end()?;
-    let given = start(g, d, &banks.one, &banks.two, &image)?;
-    let place = given.place;
-    let total = given.total;
-    Ok(format!(in line.alloc(); "0 {place} {total}")?.into())
+    let given = start(g, d, one, two, image)?;
+    let numbers = Numbers::one(0).and(given.place).and(given.total);
+    Ok(Outcome::only(numbers))
 }
 
-pub fn turn_outcome(line: &mut Line) -> Result<Outcome, NoOutcome>
+pub fn turn_outcome<'a>(
+    line: &mut Line<'a>,
+    rooms: Rooms<'a>,
+    spare: &mut [u32],
+) -> Result<Outcome<'a>, NoOutcome>
     ensures { IfOk result (λ outcome. IsOutcome outcome) }
 {
     let (g, d) = sign(line)?;
-    let again = line.clone()?;
-    let mut banks = banks(line)?;
-    let (image, sram) = image_and_sram(line)?;
+    let before = line.words()?;
+    let (one, two) = banks(line, rooms)?;
+    let (image, sram) = image_and_sram(line, spare)?;
     let place = line.number()?;
     line.end()?;
-    let given = turn(g, d, &mut banks.one, &mut banks.two, &image, &sram, place)?;
-    drop(image);
-    drop(sram);
-    let done = u8::from(given.done);
-    let device = DeviceNumbers::from(given.device);
-    let place = given.place;
-    let event = u8::from(given.event);
-    let numbers = format!(in line.alloc(); "0 {done} {device} {place} {event}")?;
-    let changed = Some(changed_since(again, banks)?);
-    Ok(Outcome { numbers, changed })
+    let given = turn(g, d, &mut *one, &mut *two, image, sram, place)?;
+    let numbers = Numbers::one(0)
+        .and(u32::from(given.done))
+        .and_device(given.device.into())
+        .and(given.place)
+        .and(u32::from(given.event));
+    let changed = Changed { one, two, before };
+    Ok(Outcome::changing(numbers, changed))
 }

@@ -5,18 +5,16 @@ ghost use Rattle.conformance_io.specs.Outcome.{IsOutcome};
 use crate::numbers::Numbers;
 
 /// The banks after a call that may have changed them.
-#[derive(Drop)]
+#[derive(Clone, Copy)]
 pub struct Changed<'a> {
     pub one: &'a [u32],
     pub two: &'a [u32],
     /// The words of the line from both banks on, which tell what they were before the call.
     pub before: &'a str,
-    /// Room for one bank as it was.
-    pub spare: &'a mut [u32],
 }
 
 /// What a call gives: its numbers, and of a call that changes lent banks these.
-#[derive(Drop)]
+#[derive(Clone, Copy)]
 pub struct Outcome<'a> {
     pub numbers: Numbers,
     pub changed: Option<Changed<'a>>,

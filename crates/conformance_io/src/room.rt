@@ -6,11 +6,9 @@ pub const LONGEST_LIST: usize = 548864;
 /// The most words of an image and an SRAM together: the longest list, and after it an SRAM that is too long.
 pub const MOST_LENT: usize = 570000;
 
-/// A room for each bank, and one for the lists after them: an image and an SRAM one after the other. When the call is made,
-/// that one is for a bank as it was before.
+/// A room for each bank.
 #[derive(Drop)]
-pub struct Room<'a> {
+pub struct Rooms<'a> {
     pub one: &'a mut [u32],
     pub two: &'a mut [u32],
-    pub spare: &'a mut [u32],
 }
