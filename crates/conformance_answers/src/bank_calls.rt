@@ -50,11 +50,11 @@ fn as_number(count: usize) -> Result<u32, NoOutcome>
 }
 
 // A page is told by where it starts in the bank, and its length.
-pub fn page_outcome<'a>(line: &mut Line<'a>, room: &mut [u32]) -> Result<Outcome<'a>, NoOutcome>
+pub fn page_outcome<'a>(line: &mut Line<'a>, spare: &mut [u32]) -> Result<Outcome<'a>, NoOutcome>
     ensures { IfOk result (λ outcome. IsOutcome outcome) }
 {
     let g = geometry(line)?;
-    let bank = list(line, room)?;
+    let bank = list(line, spare)?;
     let number = line.number()?;
     line.end()?;
     let layout = page_decline(g, bank, number)?;

@@ -11,6 +11,7 @@ use conformance_answers::device_calls::{
 };
 use conformance_answers::update_calls::{turn_outcome, update_start_outcome};
 use conformance_io::outcome::Outcome;
+use conformance_io::room::Rooms;
 use conformance_lists::line::Line;
 use conformance_lists::no_outcome::NoOutcome;
 
@@ -54,7 +55,12 @@ impl Call {
     }
 
     /// What the call gives for the inputs that are left in a line.
-    pub fn outcome(self, line: &mut Line) -> Result<Outcome, NoOutcome>
+    pub fn outcome<'a>(
+        self,
+        line: &mut Line<'a>,
+        rooms: Rooms<'a>,
+        spare: &mut [u32],
+    ) -> Result<Outcome<'a>, NoOutcome>
         ensures { IfOk result (λ outcome. IsOutcome outcome) }
     {
         match self {
@@ -63,22 +69,26 @@ impl Call {
             Call::Protected => protected_outcome(line),
             Call::Store => store_outcome(line),
             Call::RegisterRead => register_read_outcome(line),
-            Call::FlashRead => flash_read_outcome(line),
-            Call::LowerBank => lower_bank_outcome(line),
-            Call::Page => page_outcome(line),
-            Call::Step => step_outcome(line),
-            Call::Reset => reset_outcome(line),
+            Call::FlashRead => flash_read_outcome(line, rooms, spare),
+            Call::LowerBank => lower_bank_outcome(line, rooms),
+            Call::Page => page_outcome(line, spare),
+            Call::Step => step_outcome(line, rooms, spare),
+            Call::Reset => reset_outcome(line, rooms, spare),
             Call::StartUp => start_up_outcome(line),
-            Call::UpdateStart => update_start_outcome(line),
-            Call::Turn => turn_outcome(line),
+            Call::UpdateStart => update_start_outcome(line, rooms, spare),
+            Call::Turn => turn_outcome(line, rooms, spare),
         }
     }
 }
 
 /// What the call that a line names gives.
-pub fn outcome(line: &mut Line) -> Result<Outcome, NoOutcome>
+pub fn outcome<'a>(
+    line: &mut Line<'a>,
+    rooms: Rooms<'a>,
+    spare: &mut [u32],
+) -> Result<Outcome<'a>, NoOutcome>
     ensures { IfOk result (λ outcome. IsOutcome outcome) }
 {
     let call = Call::of(line.word()?.as_bytes()).ok_or(NoOutcome::NoCase)?;
-    call.outcome(line)
+    call.outcome(line, rooms, spare)
 }

@@ -6,6 +6,7 @@ use native.Mathlib.Omega.{arith}
 use lib.ListN.{length, length-append, get_or, take, drop}
 use Rattle.std.proofs.Common.{nat_eq, true, false, Bool, if◌then◌else◌, Option, Some, None, MatchOption, is_some}
 use Rattle.std.specs.Fmt.{decimal}
+use Rattle.std.proofs.lemmas.Bool.Decides.{nat_tests}
 use Rattle.std.proofs.lemmas.List.{append-nil}
 use Rattle.std.proofs.Math.Seq.{drop-nil}
 use Rattle.conformance_io.specs.declared.banks.Change.{Change}
@@ -86,8 +87,10 @@ pub both_printed : (one two : List Change) (count_one count_two : ℕ) → count
 both_printed one two count_one count_two e f =
     rw (e, f, length-append one two, changes_joined one two) refl
 
--- no changes after a text
-pub none_printed : (changes : List Change) (count : ℕ) (text : List ℕ) → count ≡ length changes → count ≡ 0
-    → text ++ changes_following changes ≡ text
-none_printed [] count text e none = append-nil text
-none_printed (change ∷ rest) count text e none = absurd (omega (arith, e, none))
+same : (n : ℕ) → nat_eq n n ≡ true
+same n = grind (arith, nat_tests)
+
+-- a bank that was the same before
+pub unchanged : (bank k : ℕ) (words : List ℕ) → changes_from bank k words words ≡ []
+unchanged bank k [] = refl
+unchanged bank k (word ∷ words) = rw (same word) (unchanged bank (k + 1) words)
