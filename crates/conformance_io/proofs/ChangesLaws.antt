@@ -61,15 +61,12 @@ module _ (bank i : ℕ) (now before : List ℕ) (l : i < length now) where
   as_before e = next [] e ∙ append-nil (changes_from bank 0 (take i now) before)
 
   pub one_more : (change : Change) → changes_from bank i (get_or now i 0 ∷ []) (drop i before) ≡ change ∷ []
-      → changes_following (changes_from bank 0 (take i now) before)
-      ++ (32 ∷ (decimal change.bank ++ (32 ∷ (decimal change.index ++ (32 ∷ decimal change.word)))))
+      → changes_following (changes_from bank 0 (take i now) before) ++ following (change.bank ∷ change.index ∷ change.word ∷ [])
       ≡ changes_following (changes_from bank 0 (take (i + 1) now) before)
   one_more change e =
       let first = changes_from bank 0 (take i now) before in
       let printed = following (change.bank ∷ change.index ∷ change.word ∷ []) in
-      ap (λ (text : List ℕ). changes_following first ++ (32 ∷ (decimal change.bank ++ (32 ∷ (decimal change.index ++ (32 ∷ text))))))
-      (sym (append-nil (decimal change.word)))
-      ∙ sym (ap changes_following (next (change ∷ []) e)
+      sym (ap changes_following (next (change ∷ []) e)
       ∙ changes_joined first (change ∷ [])
       ∙ ap (λ (text : List ℕ). changes_following first ++ text) (append-nil printed))
 

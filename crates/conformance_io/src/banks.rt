@@ -1,7 +1,8 @@
 // What a call changed in a bank.
 ghost use Rattle.std.specs.Prelude.{◌≡◌, ◌≤◌, [], ◌∷◌, Some, length, drop, MatchOption};
+ghost use Rattle.std.specs.Fmt.{WritesOnOk, decimal};
 ghost use Rattle.conformance_io.specs.Changes.{changes_from};
-ghost use Rattle.conformance_io.specs.Text.{changes_following};
+ghost use Rattle.conformance_io.specs.Text.{changes_following, following};
 
 use std::fmt;
 
@@ -52,13 +53,31 @@ impl BankChanges<'_> {
     }
 }
 
+// Writes a number after a blank. In pieces, the blank is no copy of a length that is only known when it is made.
+#[inline(always)]
+fn put_next<W: fmt::Write>(f: &mut fmt::Formatter<W>, number: usize) -> fmt::Result
+    ensures { WritesOnOk W.write_str_gives f.old result (32 ∷ decimal number) f.new }
+{
+    f.write_str(" ")?;
+    f.write(number)
+}
+
+#[inline(always)]
+fn put_change<W: fmt::Write>(f: &mut fmt::Formatter<W>, change: Change) -> fmt::Result
+    ensures { WritesOnOk W.write_str_gives f.old result (following (change.bank ∷ change.index ∷ change.word ∷ [])) f.new }
+{
+    put_next(f, change.bank as usize)?;
+    put_next(f, change.index)?;
+    put_next(f, change.word as usize)
+}
+
 impl fmt::Display for BankChanges<'_> {
     ghost output = { λ changes. Some (changes_following (changes_from changes.bank 0 changes.after.now changes.before.now)) };
 
     fn fmt<W: fmt::Write>(&self, f: &mut fmt::Formatter<W>) -> fmt::Result {
         for (index, word) in self.after.iter().enumerate() {
             if let Some(change) = self.change(index, *word) {
-                write!(f, " {} {} {}", change.bank, change.index, change.word)?;
+                put_change(f, change)?;
             }
         }
         Ok(())
