@@ -1,14 +1,14 @@
 -- The changes of a bank word by word, and what is printed of them. Assumes nothing.
 use mathlib.Core.Path.{◌≡◌, refl, sym, ap, ◌∙◌}
 use mathlib.Core.List.{List, [], ◌∷◌, ◌++◌, append_assoc}
-use Prim.Native.Nat.{ℕ, zero, suc, ◌+◌, ◌<◌}
+use Prim.Native.Nat.{ℕ, zero, suc, ◌+◌, ◌-◌, ◌<◌, min}
 use native.Mathlib.Omega.{arith}
 use lib.ListN.{length, length-append, get_or, take, drop}
-use Rattle.std.proofs.Common.{nat_eq, true, false, Bool, if◌then◌else◌, Option, Some, None, MatchOption, is_some}
+use Rattle.std.proofs.Common.{nat_eq, true, false, Bool, if◌then◌else◌}
 use Rattle.std.specs.Fmt.{decimal}
 use Rattle.std.proofs.lemmas.Bool.Decides.{nat_tests}
 use Rattle.std.proofs.lemmas.List.{append-nil}
-use Rattle.std.proofs.Math.Seq.{drop-nil}
+use Rattle.std.proofs.Math.Seq.{drop-nil, drop-cons}
 use Rattle.conformance_io.specs.declared.banks.Change.{Change}
 use Rattle.conformance_io.specs.Changes.{changes_from}
 use Rattle.conformance_io.specs.Text.{following, changes_following, changes_text}
@@ -43,6 +43,15 @@ changes_more bank k (suc i) (word ∷ now) (old ∷ before) l =
     (changes_more bank (k + 1) i now before (omega (arith, l))
     ∙ ap (λ (m : ℕ). changes_from bank (k + 1) (take i now) before ++ changes_from bank m (get_or now i 0 ∷ []) (drop i before)) (omega arith))
 
+-- how many there are with one more
+sized : (same : Bool) (change : Change) (all : List Change) → length (if same then all else (change ∷ all)) ≡ length all + (if same then 0 else 1)
+sized true change all = omega arith
+sized false change all = omega arith
+
+one : (same : Bool) (change : Change) → length (if same then [] else (change ∷ [])) ≡ if same then 0 else 1
+one true change = refl
+one false change = refl
+
 -- the first words and one more, by what that one changed
 module _ (bank i : ℕ) (now before : List ℕ) (l : i < length now) where
   next : (changes : List Change) → changes_from bank i (get_or now i 0 ∷ []) (drop i before) ≡ changes
@@ -70,13 +79,34 @@ module _ (bank i : ℕ) (now before : List ℕ) (l : i < length now) where
       ∙ changes_joined first (change ∷ [])
       ∙ ap (λ (text : List ℕ). changes_following first ++ text) (append-nil printed))
 
-  pub counted : (change : Option Change)
-      → MatchOption change (changes_from bank i (get_or now i 0 ∷ []) (drop i before) ≡ [])
-      (λ c. changes_from bank i (get_or now i 0 ∷ []) (drop i before) ≡ c ∷ [])
+  pub counted : i < length before
       → length (changes_from bank 0 (take (i + 1) now) before)
-      ≡ length (changes_from bank 0 (take i now) before) + (if is_some change then 1 else 0)
-  counted None e = ap length (next [] e) ∙ length-append (changes_from bank 0 (take i now) before) []
-  counted (Some change) e = ap length (next (change ∷ []) e) ∙ length-append (changes_from bank 0 (take i now) before) (change ∷ [])
+      ≡ length (changes_from bank 0 (take i now) before) + (if nat_eq (get_or before i 0) (get_or now i 0) then 0 else 1)
+  counted h =
+      let first = changes_from bank 0 (take i now) before in
+      ap length (next _ refl)
+      ∙ length-append first (changes_from bank i (get_or now i 0 ∷ []) (drop i before))
+      ∙ ap (λ (words : List ℕ). length first + length (changes_from bank i (get_or now i 0 ∷ []) words)) (drop-cons before i 0 h)
+      ∙ ap (λ (n : ℕ). length first + n) (one (nat_eq (get_or before i 0) (get_or now i 0)) _)
+
+-- each word that had none before it is changed
+all_new : (bank k : ℕ) (now : List ℕ) → length (changes_from bank k now []) ≡ length now
+all_new bank k [] = refl
+all_new bank k (word ∷ now) = ap suc (all_new bank (k + 1) now)
+
+-- the words that had one before, and those that had none
+pub counted_all : (bank k i : ℕ) (now before : List ℕ) → i ≡ min (length now) (length before)
+    → (length now - length before) + length (changes_from bank k (take i now) before) ≡ length (changes_from bank k now before)
+counted_all bank k zero [] before e = omega arith
+counted_all bank k (suc i) [] before e = absurd (omega (arith, e))
+counted_all bank k zero (word ∷ now) [] e = omega (arith, all_new bank (k + 1) now)
+counted_all bank k (suc i) (word ∷ now) [] e = absurd (omega (arith, e))
+counted_all bank k zero (word ∷ now) (old ∷ before) e = absurd (omega (arith, e))
+counted_all bank k (suc i) (word ∷ now) (old ∷ before) e =
+    let others = counted_all bank (k + 1) i now before (omega (arith, e)) in
+    let short = sized (nat_eq old word) (record { bank = bank; index = k; word = word }) (changes_from bank (k + 1) (take i now) before) in
+    let long = sized (nat_eq old word) (record { bank = bank; index = k; word = word }) (changes_from bank (k + 1) now before) in
+    omega (arith, others, short, long)
 
 -- the changes of both banks after their count
 pub both_printed : (one two : List Change) (count_one count_two : ℕ) → count_one ≡ length one → count_two ≡ length two

@@ -43,9 +43,11 @@ impl BankChanges<'_> {
         ensures all { result ≡ length (changes_from self.now.bank 0 self.now.after.now self.now.before.now) }
         ensures few { result ≤ length self.now.after.now }
     {
-        let mut count = 0;
-        for (index, word) in self.after.iter().enumerate() {
-            if self.change(index, *word).is_some() {
+        let (after, before) = (self.after, self.before);
+        let mut count = after.len().saturating_sub(before.len());
+        let both = after.len().min(before.len());
+        for index in 0..both {
+            if before[index] != after[index] {
                 count += 1;
             }
         }
