@@ -5,6 +5,7 @@ ghost use Rattle.conformance_io.specs.Changes.{changes_from};
 ghost use Rattle.conformance_io.specs.Text.{changes_following, following};
 
 use std::fmt;
+use std::fmt::Display;
 
 /// A word that a call changed: the number of its bank, its index and what it is now.
 #[derive(Clone, Copy, Debug, PartialEq, Eq)]
@@ -61,7 +62,7 @@ fn put_next<W: fmt::Write>(f: &mut fmt::Formatter<W>, number: usize) -> fmt::Res
     ensures { WritesOnOk W.write_str_gives f.old result (32 ∷ decimal number) f.new }
 {
     f.write_str(" ")?;
-    f.write(number)
+    number.fmt(f)
 }
 
 #[inline(always)]
