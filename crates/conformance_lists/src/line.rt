@@ -77,9 +77,7 @@ impl<'a> Line<'a> {
         if most < length as usize || length < pairs {
             return Err(NoOutcome::NoCase);
         }
-        let words = room
-            .get_mut(..length as usize)
-            .ok_or(NoOutcome::NoCase)?;
+        let words = room.get_mut(..length as usize).ok_or(NoOutcome::NoCase)?;
         words.fill(word);
         for _ in 0..pairs {
             let [index, word] = self.numbers::<2>()?;

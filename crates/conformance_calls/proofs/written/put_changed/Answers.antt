@@ -11,11 +11,11 @@ returns g c plain ok =
     let took = g.W.Write.write_str_gives in
     let changed = c.args.changed in
     let counts : HasWritten took c.args.f.now (32 ∷ decimal (c.count-in_one.result + c.count-in_two.result)) c.write.new.self
-        = c.in_ok-write.ensures.writes plain refl in
+    = c.in_ok-write.ensures.writes plain refl in
     let one : BankWritten took c.write.new.self 1 changed.one.now c.count-in_one.result c.put_bank.new.f
-        = c.in_ok-put_bank.ensures counts.plain refl in
+    = c.in_ok-put_bank.ensures counts.plain refl in
     let two : BankWritten took c.put_bank.new.f 2 changed.two.now c.count-in_two.result c.put_bank-2.new.f
-        = c.put_bank-2.ensures one.wrote.plain ok in
+    = c.put_bank-2.ensures one.wrote.plain ok in
     record {
       one = one.before;
       two = two.before;
