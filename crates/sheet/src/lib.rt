@@ -18,7 +18,9 @@ use sheet_line::{LINE_BYTES, put_line};
 use sheet_page::{SheetBank, kind_pages};
 use words::decline::Decline;
 
-// Writes the lines of a bank's pages of a kind at a position.
+// Writes the lines of a bank's pages of a kind at a position. Inlined, as the next: a bank that is handed on stands in memory, where its
+// geometry is read in other widths than it was just written in, for which the processor waits.
+#[inline(always)]
 fn put_kind(out: &mut [u8], at: usize, bank: SheetBank, program: bool)
     requires { at + 17 * kind_pages_of bank.layout.geometry program ≤ length out.old }
     ensures { out.new ≡ sets out.old at (kind_lines_of bank.entry.layout.geometry bank.entry.d bank.entry.words.now bank.entry.second program) }
@@ -30,6 +32,7 @@ fn put_kind(out: &mut [u8], at: usize, bank: SheetBank, program: bool)
 }
 
 // Writes the lines of a bank at a position: its boot pages, then its program pages.
+#[inline(always)]
 fn put_bank(out: &mut [u8], at: usize, bank: SheetBank)
     requires { at + 17 * pages_of bank.layout.geometry ≤ length out.old }
     ensures { out.new ≡ sets out.old at (bank_lines_of bank.entry.layout.geometry bank.entry.d bank.entry.words.now bank.entry.second) }
