@@ -105,8 +105,7 @@ pub fn store_accepted(layout: Layout, d: Device, number: u32, form: u32, value: 
     }
 }
 
-// A store of a form and a value to a register. Inlined, so that what a caller makes of the outcome is made without a copy of it.
-#[inline(always)]
+// A store of a form and a value to a register.
 #[tactic(auto, unfolding(crate::specs::Store::store_of))]
 pub fn store(g: Geometry, d: Device, number: u32, form: u32, value: u32) -> Result<Outcome, Decline>
     ensures { answer_from d result ≡ store_of g d number form value }

