@@ -5,8 +5,8 @@
 ghost use Rattle.std.specs.Prelude.{◌≤◌, length};
 ghost use Rattle.script_program.specs.Program.{output_room};
 
+use script_program::input::read_full;
 use script_program::{OUTPUT, print};
-use std::io::{Read, Stdin};
 
 // No more of the input is read.
 const INPUT: usize = 1048576;
@@ -33,21 +33,6 @@ fn play_all(rt: &impl Print, input: &[u8], out: &mut [u8])
         play_one(rt, script, out);
         rest = next;
     }
-}
-
-// Reads until the buffer is full, the input ends or a read fails; gives how many bytes are read.
-fn read_full(mut from: Stdin, input: &mut [u8]) -> usize
-    ensures { result ≤ length input.new }
-{
-    let mut count = 0;
-    while count < input.len() {
-        let got = from.read(&mut input[count..]).unwrap_or(0);
-        if got == 0 {
-            break;
-        }
-        count += got;
-    }
-    count
 }
 
 // Reads the input and plays it; the buffer has room for every output.

@@ -5,26 +5,12 @@
 ghost use Rattle.std.specs.Prelude.{◌≤◌, length};
 ghost use Rattle.script_program.specs.Program.{output_room};
 
+use script_program::input::read_full;
 use script_program::{LONGEST, OUTPUT, print};
 use std::io::{Read, Stdin};
 
 // One byte more than the longest script: where all are read, the script is too long.
 const INPUT: usize = LONGEST + 1;
-
-// Reads until the buffer is full, the input ends or a read fails; gives how many bytes are read.
-fn read_full(mut from: Stdin, input: &mut [u8]) -> usize
-    ensures { result ≤ length input.new }
-{
-    let mut count = 0;
-    while count < input.len() {
-        let got = from.read(&mut input[count..]).unwrap_or(0);
-        if got == 0 {
-            break;
-        }
-        count += got;
-    }
-    count
-}
 
 // Whether the input ends after the bytes that were read. A read that failed is no end.
 fn is_end(mut from: Stdin, input: &mut [u8], count: usize) -> bool

@@ -1,6 +1,8 @@
 // What the play program prints for a script.
 #![tactic(auto)]
 
+pub mod input;
+
 ghost use Rattle.std.specs.Prelude.{◌≡◌, []};
 ghost use Rattle.script_play.specs.Play.{play_of, play_length_from};
 ghost use Rattle.script_program.specs.Program.{smallest, start_of, decline_line, printout, taken_of, written_of, print_of};
