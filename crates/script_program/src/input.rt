@@ -3,7 +3,7 @@ ghost use Rattle.std.specs.Prelude.{◌≤◌, length};
 
 use std::io::{Read, Stdin};
 
-// Reads until the buffer is full, the input ends or a read fails; gives how many bytes are read.
+/// Reads until the buffer is full, the input ends or a read fails; gives how many bytes are read.
 pub fn read_full(mut from: Stdin, input: &mut [u8]) -> usize
     ensures { result ≤ length input.new }
 {

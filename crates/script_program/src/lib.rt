@@ -1,4 +1,4 @@
-// What the play program prints for a script.
+// What the play program prints for a script, and reading until a buffer is full.
 #![tactic(auto)]
 
 pub mod input;
