@@ -7,7 +7,7 @@ use lib.ListN.{length, length-append, get_or, take, drop}
 use Rattle.std.proofs.Common.{nat_eq, true, false, Bool, if◌then◌else◌}
 use Rattle.std.specs.Fmt.{decimal}
 use Rattle.std.proofs.lemmas.Bool.Decides.{nat_tests}
-use Rattle.std.proofs.lemmas.List.{append-nil}
+use Rattle.std.proofs.lemmas.List.{append-nil, take_more}
 use Rattle.std.proofs.Math.Seq.{drop-nil, drop-cons}
 use Rattle.conformance_io.specs.declared.banks.Change.{Change}
 use Rattle.conformance_io.specs.Changes.{changes_from}
@@ -19,6 +19,18 @@ changes_joined [] rest = refl
 changes_joined (change ∷ first) rest =
     let front = following (change.bank ∷ change.index ∷ change.word ∷ []) in
     ap (λ (text : List ℕ). front ++ text) (changes_joined first rest) ∙ sym (append_assoc front (changes_following first) (changes_following rest))
+
+-- one change more
+change_after : (first : List Change) (change : Change)
+    → changes_following first ++ following (change.bank ∷ change.index ∷ change.word ∷ []) ≡ changes_following (first ++ (change ∷ []))
+change_after first change =
+    let printed = following (change.bank ∷ change.index ∷ change.word ∷ []) in
+    sym (changes_joined first (change ∷ []) ∙ ap (λ (text : List ℕ). changes_following first ++ text) (append-nil printed))
+
+pub change_next : (changes : List Change) (i : ℕ) (d : Change) → i < length changes
+    → let change = get_or changes i d in
+    changes_following (take i changes) ++ following (change.bank ∷ change.index ∷ change.word ∷ []) ≡ changes_following (take (i + 1) changes)
+change_next changes i d l = change_after (take i changes) (get_or changes i d) ∙ sym (ap changes_following (take_more changes i d l))
 
 -- one word more, before a list that it does not touch
 onto : (same : Bool) (change : Change) (all front back : List Change) → all ≡ front ++ back
@@ -54,7 +66,7 @@ one false change = refl
 
 -- the first words and one more, by what that one changed
 module _ (bank i : ℕ) (now before : List ℕ) (l : i < length now) where
-  next : (changes : List Change) → changes_from bank i (get_or now i 0 ∷ []) (drop i before) ≡ changes
+  pub next : (changes : List Change) → changes_from bank i (get_or now i 0 ∷ []) (drop i before) ≡ changes
       → changes_from bank 0 (take (i + 1) now) before ≡ changes_from bank 0 (take i now) before ++ changes
   next changes e =
       let first = changes_from bank 0 (take i now) before in
@@ -72,12 +84,7 @@ module _ (bank i : ℕ) (now before : List ℕ) (l : i < length now) where
   pub one_more : (change : Change) → changes_from bank i (get_or now i 0 ∷ []) (drop i before) ≡ change ∷ []
       → changes_following (changes_from bank 0 (take i now) before) ++ following (change.bank ∷ change.index ∷ change.word ∷ [])
       ≡ changes_following (changes_from bank 0 (take (i + 1) now) before)
-  one_more change e =
-      let first = changes_from bank 0 (take i now) before in
-      let printed = following (change.bank ∷ change.index ∷ change.word ∷ []) in
-      sym (ap changes_following (next (change ∷ []) e)
-      ∙ changes_joined first (change ∷ [])
-      ∙ ap (λ (text : List ℕ). changes_following first ++ text) (append-nil printed))
+  one_more change e = change_after (changes_from bank 0 (take i now) before) change ∙ sym (ap changes_following (next (change ∷ []) e))
 
   pub counted : i < length before
       → length (changes_from bank 0 (take (i + 1) now) before)

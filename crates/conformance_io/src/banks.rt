@@ -1,9 +1,10 @@
-// What a call changed in a bank.
-ghost use Rattle.std.specs.Prelude.{◌≡◌, ◌≤◌, [], ◌∷◌, Some, length, drop, MatchOption};
+// What a call changed in a bank, and in both.
+ghost use Rattle.std.specs.Prelude.{◌≡◌, ◌≤◌, [], ◌∷◌, ◌++◌, Some, length, drop, MatchOption, OnOk, IfOk};
 ghost use Rattle.std.specs.Fmt.{WritesOnOk, decimal};
 ghost use Rattle.conformance_io.specs.Changes.{changes_from};
-ghost use Rattle.conformance_io.specs.Text.{changes_following, following};
+ghost use Rattle.conformance_io.specs.Text.{changes_following, changes_text, following, numbers_text};
 
+use std::alloc::{AllocError, Global};
 use std::fmt;
 use std::fmt::Display;
 
@@ -13,6 +14,14 @@ pub struct Change {
     pub bank: u32,
     pub index: usize,
     pub word: u32,
+}
+
+impl fmt::Display for Change {
+    ghost output = { λ change. Some (numbers_text (change.bank ∷ change.index ∷ change.word ∷ [])) };
+
+    fn fmt<W: fmt::Write>(&self, f: &mut fmt::Formatter<W>) -> fmt::Result {
+        write!(f, "{} {} {}", self.bank, self.index, self.word)
+    }
 }
 
 /// The changes of one bank. Each prints after a blank.
@@ -54,6 +63,18 @@ impl BankChanges<'_> {
         }
         count
     }
+
+    // Puts the changes after those so far.
+    fn push_to(&self, all: &mut Vec<Change>) -> Result<(), AllocError>
+        ensures { OnOk result (all.new.items ≡ all.old.items ++ changes_from self.now.bank 0 self.now.after.now self.now.before.now) }
+    {
+        for (index, word) in self.after.iter().enumerate() {
+            if let Some(change) = self.change(index, *word) {
+                all.push(change)?;
+            }
+        }
+        Ok(())
+    }
 }
 
 // Writes a number after a blank. By itself the blank is a piece of known length, which is copied faster.
@@ -84,5 +105,51 @@ impl fmt::Display for BankChanges<'_> {
             }
         }
         Ok(())
+    }
+}
+
+/// The changed words of both banks, which print after their count.
+#[derive(Drop)]
+pub struct Changes(pub Vec<Change>);
+
+impl fmt::Display for Changes {
+    ghost output = { λ changes. Some (changes_text changes.0.items) };
+
+    fn fmt<W: fmt::Write>(&self, f: &mut fmt::Formatter<W>) -> fmt::Result {
+        write!(f, "{}", self.0.len())?;
+        for change in &self.0 {
+            write!(f, " {change}")?;
+        }
+        Ok(())
+    }
+}
+
+/// Both banks, held.
+#[derive(Clone, PartialEq, Eq, Drop)]
+pub struct Banks {
+    pub one: Vec<u32>,
+    pub two: Vec<u32>,
+}
+
+impl Banks {
+    /// What changed since the banks were as `before`.
+    pub fn changes(&self, alloc: Global, before: &Banks) -> Result<Changes, AllocError>
+        ensures { IfOk result (λ changes. changes.0.items
+            ≡ changes_from 1 0 self.now.one.items before.now.one.items ++ changes_from 2 0 self.now.two.items before.now.two.items) }
+    {
+        let mut all = Vec::new(alloc);
+        let one = BankChanges {
+            bank: 1,
+            before: &before.one,
+            after: &self.one,
+        };
+        one.push_to(&mut all)?;
+        let two = BankChanges {
+            bank: 2,
+            before: &before.two,
+            after: &self.two,
+        };
+        two.push_to(&mut all)?;
+        Ok(Changes(all))
     }
 }

@@ -1,4 +1,4 @@
-// The numbers that a call gives.
+// The numbers that a call gives, and a device's as text.
 // What asks for room for a number is no call of the device: its callers show it.
 ghost use Rattle.std.specs.Prelude.{◌≡◌, ◌+◌, ◌<◌, ◌≤◌, ◌++◌, [], ◌∷◌, Some};
 
@@ -15,6 +15,15 @@ pub struct Numbers {
 
 impl Numbers {
     ghost use Rattle.conformance_io.specs.Numbers.{listed};
+
+    fn none() -> Numbers
+        ensures { result.count ≡ 0 }
+    {
+        Numbers {
+            count: 0,
+            words: [0; 26],
+        }
+    }
 
     pub fn one(number: u32) -> Numbers
         ensures count { result.count ≡ 1 }
@@ -72,5 +81,16 @@ impl fmt::Display for Numbers {
             write!(f, " {number}")?;
         }
         Ok(())
+    }
+}
+
+// Prints its numbers with one blank between two.
+impl fmt::Display for DeviceNumbers {
+    ghost use Rattle.conformance_io.specs.Text.{numbers_text};
+
+    ghost output = { λ device. Some (numbers_text device.0) };
+
+    fn fmt<W: fmt::Write>(&self, f: &mut fmt::Formatter<W>) -> fmt::Result {
+        Numbers::none().and_device(*self).fmt(f)
     }
 }
